@@ -20,7 +20,7 @@ from concurrent.futures import ThreadPoolExecutor
 
 HERE = pathlib.Path(__file__).resolve().parent
 FOLDER = HERE / "theories"
-THEORIES = ("connectives", "maps", "pairs", "groups")
+THEORIES = ("connectives", "maps", "pairs", "groups", "tactics", "laws", "relations")
 SECONDS = 240
 
 sys.path.insert(0, str(HERE.parent / "clients"))

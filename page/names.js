@@ -1,9 +1,12 @@
-// The names that stand: theorems, constants and types of the theories and of the prelude; what completes a word, and what is found.
-import { CONSTANTS, MANUAL, PRELUDE, TYPES } from './tables.js';
+// The names that stand: theorems, constants, types and functions on goals of the theories and of the prelude; what completes a word, and what is
+// found.
+import { CONSTANTS, MANUAL, PRELUDE, STEPS, TYPES } from './tables.js';
 import { SYMBOL_NAMES } from './editor.js';
+import { isMadeName } from './notation.js';
 
-const SHOWN = /^(thm|const|type) ([^\s:/]+)(?: \|- |:|\/)([^]*)$/;
-const KINDS = { thm: 'theorem', const: 'constant', type: 'type' };
+const SHOWN = /^(?:(thm|const|type) ([^\s:/]+)(?: \|- |:|\/)([^]*)|(tac) (\S+))$/;
+const NAMED = /^deftac\s+\S+\s*/;
+const KINDS = { thm: 'theorem', const: 'constant', type: 'type', tac: 'function' };
 const OWN = [
   ...Object.entries(PRELUDE).map(([name, shown]) => ({ kind: 'theorem', name, shown, origin: 'the prelude' })),
   ...Object.entries(CONSTANTS).map(([name, shown]) => ({ kind: 'constant', name, shown, origin: 'the prelude' })),
@@ -14,12 +17,13 @@ const MOST = 60;
 // What a theory has made, as its reports tell, with the command.
 export function made(theory) {
   const found = [];
-  theory.commands.forEach(({ word }, number) => {
+  theory.commands.forEach(({ word, text }, number) => {
     const report = theory.entry(number)?.report;
     if (report?.kind !== 'made' || word === 'import') return;
     for (const entry of report.entries) {
       const parts = SHOWN.exec(entry);
-      if (parts) found.push({ kind: KINDS[parts[1]], name: parts[2], shown: parts[3], origin: theory.name, theory, number });
+      const [kind, name, shown] = parts?.[4] ? ['tac', parts[5], text.replace(NAMED, '').replace(/\s+/g, ' ')] : parts?.slice(1) ?? [];
+      if (kind) found.push({ kind: KINDS[kind], name, shown, origin: theory.name, theory, number });
     }
   });
   return found;
@@ -39,13 +43,14 @@ function candidates(before, names, theories, free) {
   const told = ({ name, shown, kind }) => ({ name, told: kind === 'theorem' ? `⊢ ${shown}` : shown });
   if (isQuoted) {
     const variables = free.map((one) => ({ name: one.split(':')[0], told: one.slice(one.indexOf(':') + 1) }));
-    return [...variables, ...names.filter(({ kind, name }) => kind !== 'theorem' && /^\w/.test(name)).map(told)];
+    return [...variables, ...names.filter(({ kind, name }) => (kind === 'constant' || kind === 'type') && /^\w/.test(name)).map(told)];
   }
   if (!words.length) return listed(MANUAL.commands);
   if (words[0] === 'import') return theories.map((name) => ({ name, told: 'a theory' }));
-  if (words[0] !== 'e' && words[0] !== 'new_basic_type_definition') return [];
+  if (!STEPS.includes(words[0]) && words[0] !== 'new_basic_type_definition' || isMadeName(before, before.length)) return [];
   const theorems = names.filter(({ kind }) => kind === 'theorem').map(told);
-  return [...listed(MANUAL.functions), ...listed(MANUAL.tacticals), ...listed(MANUAL.rules), ...theorems];
+  const functions = names.filter(({ kind }) => kind === 'function').map(told);
+  return [...functions, ...listed(MANUAL.functions), ...listed(MANUAL.tacticals), ...listed(MANUAL.rules), ...theorems];
 }
 
 // What completes the word at the end of `before`, a command's text up to the cursor: { word, found }, those that begin so first.

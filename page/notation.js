@@ -31,6 +31,9 @@ export function wordRanges(text, word) {
   return [...withoutQuotations(text).matchAll(pattern)].map((found) => [found.index, found.index + word.length]);
 }
 
+// Whether a name of a command's text is the one that `deftac` gives.
+export const isMadeName = (text, place) => text.slice(0, place).trim() === 'deftac';
+
 export const hasTactical = (text) => (withoutQuotations(text).match(/[A-Za-z_][A-Za-z0-9_']*/g) ?? []).some((word) => TACTICALS.includes(word));
 
 export const isName = (text) => /^[A-Za-z_][A-Za-z0-9_']*$/.test(text) && !RESERVED.includes(text) && text.length <= LIMITS.name;

@@ -11,6 +11,9 @@ export function explain(text, place) {
   const before = tokensBefore(text, place);
   const told = unclosed(text) ?? missingEnd(text) ?? withoutName(text, before);
   if (told) return told;
+  if (before.length === 1 && before[0] === 'deftac' && token) {
+    return [place, place + token.length, `a name is missing before the expression: ${COMMANDS.deftac}`];
+  }
   if (place >= text.length) return [Math.max(0, place - 1), place, 'the command ends too soon: something has to follow here'];
   if (!before.length && token in COMMANDS) return [place, place + token.length, `the program reads \`${token}\` and doesn't run it in this form`];
   if (!before.length && token && /^[A-Za-z_]/.test(token) && token[0] !== '_') return [place, place + token.length, noCommand(token)];
@@ -47,7 +50,7 @@ export function missingEnd(text) {
     if (found[1] in COMMANDS && blank.slice(0, found.index).trim()) return [start, end, `a \`;;\` is missing before \`${found[1]}\``];
   }
   const last = /\S\s+(qed|oops)\s*$/.exec(blank);
-  if (!last || /\b(g|import|new_\w+)\s+(qed|oops)\s*$/.test(blank)) return null;
+  if (!last || /\b(g|import|deftac|new_\w+)\s+(qed|oops)\s*$/.test(blank)) return null;
   const start = last.index + last[0].indexOf(last[1], 1);
   return [start, start + last[1].length, `a \`;;\` is missing before \`${last[1]}\``];
 }
@@ -75,6 +78,7 @@ function unexpected(text, place, token, before) {
   if (told) return told;
   const isQuoted = before.filter((one) => one === '`').length % 2 === 1;
   let hint = isQuoted ? IN_TERMS[token] ?? '' : token === ';' ? '; a command ends with `;;`' : '';
+  if (before[0] === 'deftac' && before.length === 2 && token === '=') hint = `; the expression stands right behind the name: ${COMMANDS.deftac}`;
   if (text.startsWith('new_type') && /^[0-9]+$/.test(token)) hint = '; a type constructor takes 0 to 16 arguments';
   if (text.startsWith('new_definition') && ['/\\', '\\/', '==>', '<=>'].includes(token)) {
     hint = "; the right side of a definition's = stands in parentheses, or has <=> before it";

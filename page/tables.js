@@ -159,7 +159,8 @@ export const COMMANDS = {
  "new_constant": "new_constant NAME `:type`",
  "new_axiom": "new_axiom NAME `term`",
  "new_definition": "new_definition NAME `NAME args = term`",
- "new_basic_type_definition": "new_basic_type_definition TYPE ABS REP NAME NAME THEOREM"
+ "new_basic_type_definition": "new_basic_type_definition TYPE ABS REP NAME NAME THEOREM",
+ "deftac": "deftac NAME TAC"
 };
 export const OUTSIDE = [
  "g",
@@ -168,7 +169,12 @@ export const OUTSIDE = [
  "new_constant",
  "new_type",
  "new_basic_type_definition",
+ "deftac",
  "import"
+];
+export const STEPS = [
+ "e",
+ "deftac"
 ];
 export const MANUAL = {
  "__proto__": null,
@@ -233,6 +239,11 @@ export const MANUAL = {
    "__proto__": null,
    "form": "new_basic_type_definition TY ABS REP N1 N2 TH",
    "does": "Defines a type by a theorem TH, `P x`; makes ABS to it, REP from it, and the theorems N1 and N2."
+  },
+  "deftac": {
+   "__proto__": null,
+   "form": "deftac NAME tac",
+   "does": "Names an expression of functions on goals, which then stands where a function without arguments may."
   }
  },
  "functions": {
@@ -578,10 +589,17 @@ export const FIXED = {
  "11": "%s is free in what is defined: make it an argument of the constant",
  "12": "the type variable %s occurs in the definition and not in the constant's type: annotate the constant"
 };
-export const OF_TYPE_DEFINITIONS = {
+export const OF_COMMANDS = {
  "__proto__": null,
- "11": "%s is free in the P of the theorem `P x`: the type's condition has to be closed",
- "14": "%s takes a theorem `P x` as its last name, and this one is no application"
+ "new_basic_type_definition": {
+  "__proto__": null,
+  "11": "%s is free in the P of the theorem `P x`: the type's condition has to be closed",
+  "14": "%s takes a theorem `P x` as its last name, and this one is no application"
+ },
+ "deftac": {
+  "__proto__": null,
+  "13": "too large: a term here, or the expression with its terms, its theorems and the expressions that it names, has over 20,000 nodes"
+ }
 };
 export const QUOTED = {
  "__proto__": null,

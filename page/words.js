@@ -1,13 +1,17 @@
 // Refusals of commands in words: where the error stands in the command's text, and what to do about it.
-import { ELSEWHERE, FITS, FIXED, FORWARD, HANDING, OF_TACTICALS, OF_TYPE_DEFINITIONS, QUOTED, TACS } from './tables.js';
-import { hasTactical, near, quotation, token, tokensBefore, wordRanges } from './notation.js';
+import { ELSEWHERE, FITS, FIXED, FORWARD, HANDING, OF_COMMANDS, OF_TACTICALS, QUOTED, TACS } from './tables.js';
+import { hasTactical, isMadeName, near, quotation, token, tokensBefore, withoutQuotations, wordRanges } from './notation.js';
 import { explain as explainSyntax, missingEnd } from './syntax.js';
 
 export const NUMBERS = {
   syntax: 1, inAProof: 2, noProof: 3, unknownTheory: 4, unknownTheorem: 5, unknownTac: 6, untypable: 7, notBool: 8, arity: 9, nameTaken: 10,
   badRule: 14, hypotheses: 15, refused: 17, goalsRemain: 19, importClash: 21,
 };
-const KINDS = { __proto__: null, thm: 'the theorem', const: 'the constant', type: 'the type' };
+const KINDS = { __proto__: null, thm: 'the theorem', const: 'the constant', type: 'the type', tac: 'the function on goals' };
+// The refusals that name what was run.
+const OF_CALLS = [NUMBERS.hypotheses, NUMBERS.refused];
+// An argument behind a function's name.
+const ARGUMENT = /^\s*([`([]|(?!(THEN|THENL|ORELSE)(?![A-Za-z0-9_']))[A-Za-z_])/;
 
 // What a refusal of a command says, as [start, end, words]. `opened` tells of the proof that is open, where one is.
 export function explain(text, refusal, opened) {
@@ -17,7 +21,7 @@ export function explain(text, refusal, opened) {
   const missing = number === NUMBERS.unknownTac || number === NUMBERS.unknownTheorem ? missingEnd(text) : null;
   if (missing) return missing;
   const [start, end] = marked(text, number, argument);
-  return [start, end, wordsOf(text, refusal, start, opened)];
+  return [start, end, wordsOf(text, refusal, start, opened) + inside(text, number, argument)];
 }
 
 function wordsOf(text, { number, argument, text: said }, start, opened) {
@@ -26,11 +30,12 @@ function wordsOf(text, { number, argument, text: said }, start, opened) {
   if (number === NUMBERS.refused) return refused(text, argument);
   if (number === NUMBERS.nameTaken) {
     const name = argument.split(':').pop();
-    const isTwice = text.split(/\s+/).filter((word) => word === name).length > 1;
+    const isTwice = text.startsWith('new_') && text.split(/\s+/).filter((word) => word === name).length > 1;
     return `${keyOf(argument)} stands already${isTwice ? ' or is made twice here' : ''}: choose another name`;
   }
   if (number === NUMBERS.importClash) return FIXED[number].replace('%s', () => keyOf(argument));
-  if (text.startsWith('new_basic_type_definition') && number in OF_TYPE_DEFINITIONS) return OF_TYPE_DEFINITIONS[number].replace('%s', () => argument);
+  const own = OF_COMMANDS[token(text, 0) ?? ''] ?? {};
+  if (number in own) return own[number].replace('%s', () => argument);
   return (FIXED[number] ?? `${said} %s`).replace('%s', () => argument).trim();
 }
 
@@ -42,14 +47,31 @@ function keyOf(argument) {
 // The place that a refusal names, in no more than the text has.
 const placeOf = (text, argument) => (/^[0-9]{1,8}$/.test(argument) ? Math.min(Number(argument), text.length) : 0);
 
+// Where a name stands outside quotations, but for the one that `deftac` gives.
+const uses = (text, name) => wordRanges(text, name).filter(([start]) => !isMadeName(text, start));
+
+function firstWord(text) {
+  const word = token(text, 0);
+  return [0, word ? word.length : Math.min(1, text.length)];
+}
+
+// The range of a step's expression.
+function expression(text) {
+  const [, end] = firstWord(text);
+  return [text.length - text.slice(end).trimStart().length, text.length];
+}
+
+// What is said where the function that a refusal is about stands inside a named one.
+function inside(text, number, name) {
+  return OF_CALLS.includes(number) && !uses(text, name).length ? '; it stands in an expression that is named here' : '';
+}
+
 // The range of the name that a refusal is about. Where it is a function's that is called more than once, all its calls are in it.
 function marked(text, number, argument) {
-  const places = wordRanges(text, argument.split(':').pop());
-  if (!places.length) {
-    const word = token(text, 0);
-    return [0, word ? word.length : Math.min(1, text.length)];
-  }
-  const isAny = [NUMBERS.refused, NUMBERS.hypotheses, NUMBERS.badRule].includes(number) || (number === NUMBERS.unknownTac && argument in TACS);
+  const name = argument.split(':').pop();
+  const places = number === NUMBERS.nameTaken ? wordRanges(text, name) : uses(text, name);
+  if (!places.length) return OF_CALLS.includes(number) ? expression(text) : firstWord(text);
+  const isAny = [...OF_CALLS, NUMBERS.badRule].includes(number) || (number === NUMBERS.unknownTac && argument in TACS);
   return [places[0][0], places[isAny ? places.length - 1 : 0][1]];
 }
 
@@ -62,13 +84,22 @@ function unknownTac(text, name, start) {
     return `HOL Light's ${name} isn't here${instead ? `: ${instead}` : '; docs/TACTICS.md lists the functions on goals that are'}`;
   }
   const found = near(name, Object.keys(TACS));
-  return `there is no function on goals ${name}${found ? `; did you mean ${found}?` : ''}`;
+  const meant = found ? `; did you mean ${found}?` : '';
+  if (uses(text, name).some(([first, end]) => ARGUMENT.test(text.slice(end)) || handingAt(text, first))) {
+    return `no function on goals ${name} takes arguments: what deftac names takes none${meant}`;
+  }
+  return `there is no function on goals ${name}${meant}`;
+}
+
+// The tactical that hands a theorem to the function at a place, or null.
+function handingAt(text, start) {
+  const before = tokensBefore(withoutQuotations(text), start).filter((one) => one !== '(').pop();
+  return HANDING.includes(before) ? before : null;
 }
 
 function wrongArguments(text, name, start) {
   const takes = TACS[name] || 'no arguments';
-  const before = tokensBefore(text, start).filter((one) => one !== '(').pop();
-  const handing = HANDING.includes(before) ? before : null;
+  const handing = handingAt(text, start);
   if (handing && TACS[name].endsWith('a theorem')) {
     return `${handing} hands its theorem to ${name}, whose last argument is left out: write ${handing} ${name}`;
   }

@@ -88,7 +88,7 @@ class Grammar:
         ways = ["b", "qed", "oops", f"r {self.pick('0', '1', '9999')}", f"import {self.pick('A', 'B')}", f"new_type {name} {self.pick('0', '2', '16', '17')}"]
         ways += [f"new_constant {name} `:{self.type(3)}`", f"new_axiom {name} {self.quote()}", f"new_definition {name} `{name} {parameters} = ({body})`"]
         ways += [f"new_basic_type_definition u mk dest N1 N2 {self.pick(*NAMES)}", f"new_definition {name} `{name} {parameters} : bool <=> {body}`"]
-        return self.pick(*ways, *(f"g {name} {self.quote()}" for _ in range(4)), *(f"e {self.expression()}" for _ in range(16)))
+        return self.pick(*ways, *(f"g {name} {self.quote()}" for _ in range(4)), *(f"e {self.expression()}" for _ in range(16)), *(f"deftac {name} {self.expression()}" for _ in range(3)))
 
 
 def broken(text, rng):
@@ -114,7 +114,7 @@ def is_well_refused(number, arg, text):
         return arg.isdigit() and text[int(arg)] == "`"
     if number in (10, 21):
         kind, _, name = arg.partition(":")
-        return kind in ("type", "const", "thm") and bool(is_name_in(name, text) or number == 21)
+        return kind in ("type", "const", "thm", "tac") and bool(is_name_in(name, text) or number == 21)
     if number in (4, 5, 6, 11, 12, 14, 15, 17):
         return bool(is_name_in(arg, text))
     return arg == ""
@@ -136,7 +136,7 @@ def fault_of(reply, text):
     if set(told) == {"goals", "ok"}:
         return None if all(map(is_goal, told["goals"])) else "a goal"
     if set(told) == {"made", "ok"}:
-        return None if all(re.match(r"(type|const|thm) ", it) for it in told["made"]) else "what was made"
+        return None if all(re.match(r"(type|const|thm|tac) ", it) for it in told["made"]) else "what was made"
     if set(told) != {"arg", "ok", "refusal", "text"} or REFUSALS.get(told["refusal"]) != told["text"]:
         return "a refusal"
     return None if is_well_refused(told["refusal"], told["arg"], text) else "a refusal's arg"

@@ -60,6 +60,12 @@ COMMANDS = [
     ("e ASM_REWRITE_TAC [AY; L]", ["thm:AY", "thm:L"], []),
     ("e SUBGOAL_THEN `c:bool` ASSUME_TAC", ["const:c", "type:bool"], []),
     ("e TRY (ACCEPT_TAC TRUTH)", ["thm:TRUTH"], []),
+    ("deftac STEPS REPEAT STRIP_TAC THEN FIRST_ASSUM ACCEPT_TAC", [], ["tac:STEPS"]),
+    ("deftac STEPS CONJ_TAC", [], ["tac:STEPS"]),
+    ("deftac BY ACCEPT_TAC L", ["thm:L"], ["tac:BY"]),
+    ("deftac BY TRY (ACCEPT_TAC AX) THEN STEPS", ["thm:AX", "tac:STEPS"], ["tac:BY"]),
+    ("e STEPS", ["tac:STEPS"], []),
+    ("e BY", ["tac:BY"], []),
     ("qed", [], []),
     ("qed", [], []),
     ("qed", [], []),
@@ -77,26 +83,27 @@ KEYS = {text: (cited, made) for text, cited, made in COMMANDS}
 # documents of whole proofs
 CONSTANTS = ["new_constant c `:bool`", "new_constant d `:bool`"]
 AXIOMS = ["new_axiom AX `c ==> c`", "new_axiom AY `d /\\ c`"]
+STEPS = "deftac STEPS REPEAT STRIP_TAC THEN FIRST_ASSUM ACCEPT_TAC"
 PROOF_OF_L = ["g L `c ==> c`", "e DISCH_TAC THEN FIRST_ASSUM ACCEPT_TAC", "qed"]
 PROOF_OF_M = ["g M `p /\\ q ==> q /\\ p`", "e STRIP_TAC", "e CONJ_TAC", "b", "e REPEAT STRIP_TAC THEN FIRST_ASSUM ACCEPT_TAC", "qed"]
 PROOF_OF_Q = ["g Q `!c:bool. c ==> c`", "e GEN_TAC", "e REPEAT STRIP_TAC THEN FIRST_ASSUM ACCEPT_TAC", "qed"]
 WHOLE = [
     [
-        ("A", [*CONSTANTS, *AXIOMS, *PROOF_OF_L, "new_definition e_DEF `e = (c /\\ d)`"]),
-        ("B", ["import A", "g N `(c ==> c) /\\ (d ==> d)`", "e CONJ_TAC", "r 1", "e REPEAT STRIP_TAC THEN FIRST_ASSUM ACCEPT_TAC", "e ACCEPT_TAC L", "qed", "new_type t 0"]),
+        ("A", [*CONSTANTS, *AXIOMS, STEPS, *PROOF_OF_L, "new_definition e_DEF `e = (c /\\ d)`", "deftac BY ACCEPT_TAC L"]),
+        ("B", ["import A", "g N `(c ==> c) /\\ (d ==> d)`", "e CONJ_TAC", "r 1", "e STEPS", "e BY", "qed", "new_type t 0"]),
         ("C", ["import B", "g L `d ==> d`", *PROOF_OF_M, "new_constant k `:t`"]),
         ("D", ["import A", "g N `c /\\ d ==> e`", "e REWRITE_TAC [e_DEF]", "qed", "import C", "new_constant k `:t`"]),
     ],
     [
-        ("B", ["new_constant c' `:bool`", *PROOF_OF_Q, "new_constant p `:bool`", "g L `c ==> c`", "e DISCH_TAC", "oops"]),
+        ("B", ["new_constant c' `:bool`", "deftac STEPS CONJ_TAC", *PROOF_OF_Q, "new_constant p `:bool`", "g L `c ==> c`", "e DISCH_TAC", "oops"]),
         ("A", [*reversed(CONSTANTS), *AXIOMS, "g L `c ==> c`", "e ACCEPT_TAC AX", "qed", "new_definition e_DEF `e = (d \\/ c)`"]),
         ("C", ["import A", "g N `(c ==> c) /\\ (d ==> d)`", "e ASM_REWRITE_TAC [AY; L]", "qed", "import B", "new_type u 1"]),
         ("D", ["import C", "g L `d ==> d`", "new_constant k `:t`", "new_type t 0", "new_constant k `:bool`", *PROOF_OF_M]),
     ],
     [
         ("C", [*CONSTANTS, *AXIOMS, "g L `d ==> d`", "e DISCH_TAC", "e MP_TAC AY", "e REWRITE_TAC []", "e DISCH_TAC", "b", "e REPEAT STRIP_TAC THEN FIRST_ASSUM ACCEPT_TAC", "qed"]),
-        ("A", ["import C", "new_definition e_DEF `e = (d \\/ c)`", "g N `c /\\ d ==> e`", "e DISCH_TAC", "e REWRITE_TAC [e_DEF]", "e ASM_REWRITE_TAC [AY; L]", "qed"]),
-        ("B", ["import A", "g M `p /\\ q ==> q /\\ p`", "e SUBGOAL_THEN `c:bool` ASSUME_TAC", "e REWRITE_TAC [AY]", "e REPEAT STRIP_TAC THEN FIRST_ASSUM ACCEPT_TAC", "qed"]),
+        ("A", ["import C", "new_definition e_DEF `e = (d \\/ c)`", STEPS, "deftac BY TRY (ACCEPT_TAC AX) THEN STEPS", "g N `c /\\ d ==> e`", "e DISCH_TAC", "e REWRITE_TAC [e_DEF]", "e ASM_REWRITE_TAC [AY; L]", "qed"]),
+        ("B", ["import A", "g M `p /\\ q ==> q /\\ p`", "e SUBGOAL_THEN `c:bool` ASSUME_TAC", "e REWRITE_TAC [AY]", "e BY", "qed"]),
         ("D", ["import C", "import B", *PROOF_OF_Q]),
     ],
 ]
@@ -183,7 +190,7 @@ def key_of(entry):
 
 class Theory:
     """What stands in a theory while its commands are gone through: under each key what the entry says and the items that it rests on; and the open proof, as its
-    statement and the history of its goals, each with the items that the proof rests on."""
+    statement and the history of its goals, each with the items that the proof rests on. What a named expression says is its text, with what it names."""
 
     def __init__(self):
         self.values, self.proof = {}, None
@@ -193,7 +200,8 @@ class Theory:
         cited, makes = KEYS[text]
         seen = tuple((key, self.values.get(key)) for key in cited + makes)
         word, goals = text.split()[0], self.proof[1][-1][0] if self.proof else []
-        first = json.dumps([goals[0], tested(text, goals[0], self.values)]) if word == "e" and goals else None
+        runs = text + str([self.values.get(key) for key in cited if key.startswith("tac:")])
+        first = json.dumps([goals[0], tested(runs, goals[0], self.values)]) if word == "e" and goals else None
         closing = (self.proof[0], self.proof[1][-1][1], len(goals)) if word == "qed" and self.proof else None
         return seen, self.proof is not None, first, closing
 
@@ -215,6 +223,9 @@ class Theory:
         elif word in ("qed", "oops"):
             self.values.update((key, (self.proof[0], self.proof[1][-1][1])) for key in made)
             self.proof = None
+        elif word == "deftac":
+            says = (text.split(None, 2)[2], tuple((key, self.values.get(key)) for key in KEYS[text][0]))
+            self.values.update((key, (says, basis)) for key in made)
         else:
             item = (item_of(text), text, tuple(standing))
             self.values.update((key, (item, basis | {item})) for key in made)

@@ -143,7 +143,7 @@ def of_case(program, case, stack=WHOLE):
 
 
 def deep_cases():
-    return [*large_terms.deep_terms(), *large_terms.deep_expressions(), *large_terms.deep_runs()]
+    return [*large_terms.deep_terms(), *large_terms.deep_expressions(), *large_terms.deep_runs(), *large_terms.deep_results()]
 
 
 def of_deep(program, case):

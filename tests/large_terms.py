@@ -166,3 +166,23 @@ def deep_runs():
     step = "new_definition D `twice p = ~ ~ p`"
     nested = ["g N `" + "twice (" * 199 + "p" + ")" * 199 + "`", *["e ONCE_REWRITE_TAC [D]"] * 199]
     yield Case("199 definitions unfolded from outside", [step, *nested], "goals")
+
+
+def deep_results():
+    """Terms that no text has: of 7,800 levels, twice as many, by a theorem that is specialized; and made by rewriting a constant by itself in a redex."""
+    grown = ["new_constant c `:bool`", r"new_axiom AX `c <=> (\x:bool. c) T`", "g N `c`", "e REPLICATE_TAC 900 (SUBST1_TAC AX)"]
+    # (More of them take more memory: each step's goal has terms of its own, down to the redex.)
+    yield Case("900 redexes made by as many steps, reduced", [*grown, "e BETA_TAC"], "goals")
+
+    def redexes(body):
+        return "(\\" + "a " * 1_950 + f". {body})" + " T" * 1_950
+
+    given = ["new_constant c `:bool`", "new_axiom C `c <=> T`", "new_axiom AX `!x:bool. " + redexes("x") + "`", "g N `T`"]
+    deep = f"SPEC `{redexes('c')}` AX"
+    made = [*given, f"e MP_TAC ({deep})"]
+    ended = ["e DISCH_TAC THEN ACCEPT_TAC TRUTH", "qed"]
+    yield Case("3,900 binders over as many arguments", [*made, *ended], "made")
+    typed = [*given, f"e MP_TAC (INST_TYPE [`:B`,`:A`] (SPEC `{redexes('(P:A->bool) z')}` AX))"]
+    yield Case("3,900 binders over as many arguments, at another type", [*typed, *ended], "made", seconds=2)
+    yield Case("3,900 binders over as many arguments, rewritten at the end", [*made, "e PURE_REWRITE_TAC [C]", *ended], "made")
+    yield Case("3,900 binders over as many arguments, rewritten once", [*made, "e ONCE_REWRITE_TAC [C]", "qed"], "made")

@@ -31,7 +31,7 @@ HANDING = ("DISCH_THEN", "POP_ASSUM", "FIRST_ASSUM", "SUBGOAL_THEN")
 # By which numbers each command is refused, and each request, as docs/PROTOCOL.md has them.
 COMMANDS = {
     "g": (1, 2, 7, 8, 9, 10, 13), "e": (1, 3, 5, 6, 7, 8, 9, 13, 14, 15, 16, 17, 18), "b": (1, 3, 20), "r": (1, 3, 16), "qed": (1, 3, 19), "oops": (1, 3),
-    "import": (1, 2, 4, 21), "new_type": (1, 2, 10), "new_constant": (1, 2, 9, 10, 13), "new_axiom": (1, 2, 7, 8, 9, 10, 13),
+    "deftac": (1, 2, 5, 6, 7, 8, 9, 10, 13, 14), "import": (1, 2, 4, 21), "new_type": (1, 2, 10), "new_constant": (1, 2, 9, 10, 13), "new_axiom": (1, 2, 7, 8, 9, 10, 13),
     "new_definition": (1, 2, 7, 9, 10, 11, 12, 13), "new_basic_type_definition": (1, 2, 5, 10, 11, 14),
 }
 REQUESTS = {

@@ -333,6 +333,46 @@ def of_texts_at_limits():
     return session
 
 
+def of_named_sizes():
+    """What `deftac` names has 20,000 nodes at most: a name, a tactical and an argument count one, an argument its terms and statements too."""
+    session, term = Session("names expressions of 20,000 nodes and no more"), f"!x y z w. {joined(1997)}"
+    just = [f"EXISTS_TAC `{term}`", "ACCEPT_TAC A", "E", f"ACCEPT_TAC (ASSUME `!x y z. {joined(998)}`)", f"SUBGOAL_THEN `~({joined(2000)})` ACCEPT_TAC"]
+    over = [f"TRY ({expression})" for expression in just] + [f"EXISTS_TAC {doubling(9)[4:]}", f"ACCEPT_TAC (REFL `~({joined(1000)})`)"]
+    before = [f"new_axiom A `{term}`", "deftac E ACCEPT_TAC A"]
+    for number, (expression, want) in enumerate([(it, makes("tac D")) for it in just] + [(it, TOO_LARGE) for it in over]):
+        report_of(session, number, [*before, f"deftac D {expression}"], want)
+    return session
+
+
+def of_nested_names():
+    """Each expression is 200 TRY around the one before it: in a theory each of 64, and in one theory up to 19,801 nodes."""
+    session, around = Session("runs expressions that are nested by their names"), lambda inner: "(TRY " * 200 + inner + ")" * 200
+    for number in range(64):
+        session.add(request("new_theory", name=f"T{number}", at=number), OK)
+        texts = [f"import T{number - 1}", f"deftac D{number} {around(f'D{number - 1}')}"] if number else [f"deftac D0 {around('NO_TAC')}"]
+        for at, text in enumerate(texts + ["g N `p:bool`", f"e D{number}", "oops"]):
+            session.add(request("insert", theory=f"T{number}", at=at, text=text), OK)
+        session.add(request("report", theory=f"T{number}", at=len(texts) + 1), shows("p", "p:bool"))
+    for number in reversed(range(64)):
+        session.add(request("drop_theory", name=f"T{number}"), OK)
+    names = [f"deftac D0 {around('NO_TAC')}"] + [f"deftac D{number} {around(f'D{number - 1}')}" for number in range(1, 100)]
+    session.theory("A", [*names, "g N `p:bool`", "e D98"])
+    for at, want in ((98, makes("tac D98")), (99, TOO_LARGE), (101, shows("p", "p:bool"))):
+        session.add(request("report", theory="A", at=at), want)
+    session.add(request("drop_theory", name="A"), OK)
+    return session
+
+
+def of_chained_names(turns, want):
+    """1,000 expressions, each of which is the name of the one before it, have one node each and take a turn each."""
+    session = Session(f"runs 1,000 names in a chain, {turns} turns", ["--turns", str(turns)])
+    session.theory("B", ["import A", "g N `p:bool`", "e D999"])
+    session.theory("A", ["deftac D0 ALL_TAC"] + [f"deftac D{number} D{number - 1}" for number in range(1, 1000)])
+    for theory, at, reply in (("A", 999, makes("tac D999")), ("B", 2, want)):
+        session.add(request("report", theory=theory, at=at), reply)
+    return session
+
+
 def generated():
     binders = "!" + " ".join(f"x{k}" for k in range(300)) + ". x0"
     yield report_on("accepts a reading of 18,208 nodes", doubling(8), re.compile(r'{"goals":\[{"asl":\[\],'))
@@ -346,6 +386,10 @@ def generated():
     yield of_sizes()
     for count in (63, 64, 65, 127, 128, 129, 255, 256, 257, 300):
         yield of_binders(count)
+    yield of_named_sizes()
+    yield of_nested_names()
+    yield of_chained_names(1_001, shows("p", "p:bool"))
+    yield of_chained_names(1_000, TURN_LIMIT)
     yield of_cycles()
     yield of_a_long_reply()
     yield of_texts_at_limits()

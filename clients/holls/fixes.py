@@ -9,7 +9,7 @@ from typing import Iterator, List, Optional, Sequence
 from holls import graph, manual, names, notation, protocol, syntax
 from holls.files import File
 from holls.findings import Finding, Severity
-from holls.names import THEOREM
+from holls.names import TACTIC, THEOREM
 
 
 @dataclass(frozen=True)
@@ -71,7 +71,9 @@ def _of_refusal(finding: Finding, refusal: protocol.Refusal, file: File, files: 
     elif refusal.number == protocol.UNKNOWN_THEOREM:
         yield from _theorem(finding, refusal.argument, file, files, every)
     elif refusal.number == protocol.UNKNOWN_TAC and not {refusal.argument} & (notation.TACS.keys() | notation.ELSEWHERE.keys()):
-        near = notation.near(refusal.argument, manual.FUNCTIONS)
+        yield from _imports(refusal.argument, TACTIC, file, every)
+        visible = [one.name for one in names.visible(files, file, finding.start) if one.kind == TACTIC]
+        near = notation.near(refusal.argument, [*manual.FUNCTIONS, *visible])
         if near:
             yield Fix("Replace by %s" % near, finding.start, finding.end, near)
     elif refusal.number == protocol.SYNTAX and finding.start == command.start and command.word not in notation.COMMANDS:
@@ -84,14 +86,19 @@ def _of_refusal(finding: Finding, refusal: protocol.Refusal, file: File, files: 
         yield Fix("Give the proof up by oops", command.start, command.end, "oops")
 
 
-def _theorem(finding: Finding, name: str, file: File, files: Sequence[File], every: Sequence[File]) -> Iterator[Fix]:
-    """A theorem that doesn't stand: the theory that makes it, to be imported; or the name that was meant."""
+def _imports(name: str, kind: str, file: File, every: Sequence[File]) -> Iterator[Fix]:
+    """The theories that make a name which doesn't stand, to be imported."""
     by_name = {other.theory.name: other for other in every}
     for other in every:
-        makes = any(one.kind == THEOREM and one.name == name for one in names.written(other))
+        makes = any(one.kind == kind and one.name == name for one in names.written(other))
         if makes and other is not file and file not in graph.all_imports(other, by_name):
             place = _import_place(file)
             yield Fix("Import %s, which makes %s" % (other.theory.name, name), place, place, "import %s;;\n" % other.theory.name)
+
+
+def _theorem(finding: Finding, name: str, file: File, files: Sequence[File], every: Sequence[File]) -> Iterator[Fix]:
+    """A theorem that doesn't stand: the theory that makes it, to be imported; or the name that was meant."""
+    yield from _imports(name, THEOREM, file, every)
     known = list(dict.fromkeys(one.name for one in names.visible(files, file, finding.start) if one.kind == THEOREM))
     for near in difflib.get_close_matches(name, known, 3, 0.6):
         yield Fix("Replace by %s" % near, finding.start, finding.end, near)

@@ -105,6 +105,7 @@ new_constant NAME `:type` | Declares a constant of this type.
 new_axiom NAME `term` | States an axiom.
 new_definition NAME `c v1 .. vn = term` | Defines the constant c and makes the theorem NAME.
 new_basic_type_definition TY ABS REP N1 N2 TH | Defines a type by a theorem TH, `P x`; makes ABS to it, REP from it, and the theorems N1 and N2.
+deftac NAME tac | Names an expression of functions on goals, which then stands where a function without arguments may.
 """)
 """The commands."""
 

@@ -1,4 +1,4 @@
-"""The names that files make: theorems, constants and types, with what is shown of them; and which of them stand at a place."""
+"""The names that files make: theorems, constants, types and functions on goals, with what is shown of them; and which stand at a place."""
 
 from __future__ import annotations
 
@@ -11,15 +11,18 @@ from holls.files import File
 from holls.protocol import Made
 from holls.text import Command
 
-THEOREM, CONSTANT, TYPE = "theorem", "constant", "type"
+THEOREM, CONSTANT, TYPE, TACTIC = "theorem", "constant", "type", "function on goals"
+IN_TERMS = (CONSTANT, TYPE)
+"""The kinds of names that stand in quotations."""
 
 _SHOWN = re.compile(r"(thm|const|type) ([^\s:/]+)(?: \|- |:|/)(.*)\Z", re.S)
 _KINDS = {"thm": THEOREM, "const": CONSTANT, "type": TYPE}
+_NAMED = re.compile(r"deftac\s+([A-Za-z_][A-Za-z0-9_']*)\s*(.*)\Z", re.S)
 _DEFINED = re.compile(r"\s*([A-Za-z_][A-Za-z0-9_']*)")
 
 
 class Written(NamedTuple):
-    """A name as a command's text makes it: the command, the last one of its proof, and its statement or type as it is written."""
+    """A name as a command's text makes it: the command, the last one of its proof, and its statement, type or expression as it is written."""
 
     kind: str
     name: str
@@ -32,7 +35,7 @@ class Written(NamedTuple):
 class Known:
     """A name that is known: what is shown of it, and the file and the command that make it, which the prelude's lack.
 
-    Where `is_made`, the program has said that it stands, and what is shown is its text; else it is as written.
+    Where `is_made`, the program has said that it stands, and what is shown is its text; else it is as written. A function's expression always is.
     """
 
     kind: str
@@ -49,7 +52,9 @@ class Known:
 
     @property
     def line(self) -> str:
-        """The name with its statement or type."""
+        """The name with its statement, type or expression."""
+        if self.kind == TACTIC:
+            return "deftac %s %s" % (self.name, self.shown)
         return "%s%s%s" % (self.name, {THEOREM: ": |- ", CONSTANT: " : ", TYPE: "/"}[self.kind], self.shown)
 
 
@@ -88,6 +93,12 @@ def quoted(command: Command) -> str:
     return " ".join(parts[1].split()) if len(parts) > 1 else ""
 
 
+def expression(command: Command) -> str:
+    """The expression that a command names, in one line."""
+    found = _NAMED.match(command.text)
+    return " ".join(found.group(2).split()) if found else ""
+
+
 def _made_by(command: Command, number: int, last: int) -> Iterator[Written]:
     """What a command makes by its text."""
     words, text = command.text.split("`")[0].split()[1:], quoted(command)
@@ -99,6 +110,10 @@ def _made_by(command: Command, number: int, last: int) -> Iterator[Written]:
         defined = _DEFINED.match(text) if command.word == "new_definition" else None
         if defined:
             yield Written(CONSTANT, defined.group(1), number, last, "")
+    elif command.word == "deftac":
+        named = _NAMED.match(command.text)
+        if named:
+            yield Written(TACTIC, named.group(1), number, last, expression(command))
     elif words:
         kind = TYPE if command.word == "new_type" else CONSTANT
         yield Written(kind, words[0], number, last, words[1] if kind == TYPE and len(words) > 1 else text.lstrip(": "))
@@ -112,6 +127,8 @@ def known(file: File) -> List[Known]:
 def _known(file: File, one: Written) -> Known:
     entry = file.entry(one.last)
     entries = entry.report.entries if entry and isinstance(entry.report, Made) else ()
+    if one.kind == TACTIC:
+        return Known(one.kind, one.name, one.text, file, one.number, "tac " + one.name in entries)
     for text in entries:
         found = _SHOWN.match(text)
         if found and _KINDS[found.group(1)] == one.kind and found.group(2) == one.name:
@@ -163,13 +180,22 @@ def uses(files: Sequence[File], target: Known) -> Iterator[Tuple[File, int, int]
                 continue
             makes = file is target.file and number == target.number
             for found in pattern.finditer(command.text, len(command.word) if command.word == target.name else 0):
-                if _is_use(command.text, found.start(), target.kind, makes):
+                if _is_use(command, found.start(), target.kind, makes):
                     first, last = command.place(found.start()), command.place(found.end())
                     yield file, first, max(first, last)
 
 
-def _is_use(text: str, place: int, kind: str, makes: bool) -> bool:
-    """Whether the name at a place of a command's text is one of this kind: a theorem stands outside quotations, the rest in them."""
+def kind_outside(command: Command, place: int) -> str:
+    """The kind of the name at a place of a command's text, outside quotations: a function on goals or a theorem."""
+    text = command.text
+    is_function = command.word in notation.STEPS and (notation.is_made_name(text, place) or notation.is_function_place(text, place))
+    return TACTIC if is_function else THEOREM
+
+
+def _is_use(command: Command, place: int, kind: str, makes: bool) -> bool:
+    """Whether the name at a place of a command's text is one of this kind: constants and types are used in quotations, the rest outside."""
+    text = command.text
     if text.count("`", 0, place) % 2 == 0:
-        return makes or kind == THEOREM
-    return kind != THEOREM and not binders.is_bound(text, place) and binders.is_in_type(text, place) == (kind == TYPE)
+        is_made = makes and (kind != TACTIC or notation.is_made_name(text, place))
+        return is_made or kind == kind_outside(command, place) and not notation.is_made_name(text, place)
+    return kind in IN_TERMS and not binders.is_bound(text, place) and binders.is_in_type(text, place) == (kind == TYPE)

@@ -63,15 +63,18 @@ COMMANDS = {
     "g": "g NAME `term`", "e": "e TAC", "b": "b", "r": "r NUM", "qed": "qed", "oops": "oops", "import": "import NAME",
     "new_type": "new_type NAME NUM", "new_constant": "new_constant NAME `:type`", "new_axiom": "new_axiom NAME `term`",
     "new_definition": "new_definition NAME `NAME args = term`",
-    "new_basic_type_definition": "new_basic_type_definition TYPE ABS REP NAME NAME THEOREM",
+    "new_basic_type_definition": "new_basic_type_definition TYPE ABS REP NAME NAME THEOREM", "deftac": "deftac NAME TAC",
 }
 """The commands by their words, and how they are written."""
 
-MAKERS = ("g", "new_axiom", "new_definition", "new_constant", "new_type", "new_basic_type_definition")
+MAKERS = ("g", "new_axiom", "new_definition", "new_constant", "new_type", "new_basic_type_definition", "deftac")
 """The commands whose second word is the name of what they make."""
 
 OUTSIDE = MAKERS + ("import",)
 """The commands that are refused while a proof is open."""
+
+STEPS = ("e", "deftac")
+"""The commands with an expression of functions on goals."""
 
 PLAIN = frozenset("if then else let in and".split())
 """Words that HOL Light's notation has, and that are plain names here."""
@@ -99,7 +102,7 @@ def near(name: str, names: Iterable[str]) -> Optional[str]:
     def stem(word: str) -> str:
         return word[:-len(_END)] if word.endswith(_END) else word
 
-    stems = {stem(other): other for other in names}
+    stems = {stem(other.upper()): other for other in names}
     found = difflib.get_close_matches(stem(name.upper()), stems, 1, 0.72)
     return stems[found[0]] if found else None
 
@@ -126,6 +129,34 @@ def word_ranges(text: str, word: str) -> List[Tuple[int, int]]:
 def has_tactical(text: str) -> bool:
     """Whether a tactical stands in a text, outside quotations."""
     return any(word in TACTICALS for word in _IDENT.findall(without_quotations(text)))
+
+
+def is_made_name(text: str, place: int) -> bool:
+    """Whether a name of a command's text is the one that `deftac` gives."""
+    return text[:place].strip() == "deftac"
+
+
+def is_function_place(text: str, place: int) -> bool:
+    """Whether a name at a place of a step's text, outside quotations, is that of a function on goals; else it is a theorem's.
+
+    It is at the expression's beginning, behind a tactical, and in brackets that stand there.
+    """
+    before = tokens_before(_QUOTATION.sub("`", text[:place]), place)
+    while before and before[-1] in ("(", "[", ";"):
+        before = _before_bracket(before)
+    if len(before) < 2:
+        return before == ["e"]
+    return before[-1] in TACTICALS or before[-1].isdigit() or before[-2:] == ["SUBGOAL_THEN", "`"] or before[:-1] == ["deftac"]
+
+
+def _before_bracket(before: List[str]) -> List[str]:
+    """The tokens before the innermost bracket that is open; none where there is none."""
+    depth = 0
+    for at in range(len(before) - 1, -1, -1):
+        depth += {")": 1, "]": 1, "(": -1, "[": -1}.get(before[at], 0)
+        if depth < 0:
+            return before[:at]
+    return []
 
 
 def word_at(text: str, place: int) -> Tuple[int, int]:

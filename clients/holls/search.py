@@ -11,7 +11,7 @@ from dataclasses import dataclass
 from typing import Any, Dict, FrozenSet, Iterable, List, Optional, Sequence, Tuple
 
 from holls import terms
-from holls.names import THEOREM, Known
+from holls.names import IN_TERMS, THEOREM, Known
 
 MOST = 200
 """So many results are kept."""
@@ -78,7 +78,7 @@ class Index:
     def find(self, asked: Query, known: Iterable[Known]) -> List[Known]:
         """The theorems that a query finds, those first that fit best: by the name, then by where the pattern fits, then the shortest."""
         every = list(known)
-        constants = frozenset(one.name for one in every if one.kind != THEOREM)
+        constants = frozenset(one.name for one in every if one.kind in IN_TERMS)
         needed = frozenset() if asked.pattern is None else terms.symbols(asked.pattern, constants)
         found: List[Tuple[Tuple[int, int, int, str], Known]] = []
         for one in every:

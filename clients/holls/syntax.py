@@ -29,6 +29,8 @@ def explain(text: str, place: int) -> Told:
     told = unclosed(text) or missing_end(text) or _without_name(text, before)
     if told:
         return told
+    if before == ["deftac"] and token:
+        return place, place + len(token), "a name is missing before the expression: %s" % notation.COMMANDS["deftac"]
     if place >= len(text):
         return max(0, place - 1), place, "the command ends too soon: something has to follow here"
     if not before and token in notation.COMMANDS:
@@ -69,7 +71,7 @@ def missing_end(text: str) -> Optional[Told]:
         if found.group(1) in notation.COMMANDS and blank[:found.start()].strip():
             return found.start(1), found.end(1), "a `;;` is missing before `%s`" % found.group(1)
     last = re.search(r"\S\s+(qed|oops)\s*\Z", blank)
-    if last and not re.search(r"\b(g|import|new_\w+)\s+(qed|oops)\s*\Z", blank):
+    if last and not re.search(r"\b(g|import|deftac|new_\w+)\s+(qed|oops)\s*\Z", blank):
         return last.start(1), last.end(1), "a `;;` is missing before `%s`" % last.group(1)
     return None
 
@@ -104,6 +106,8 @@ def _unexpected(text: str, place: int, token: Optional[str], before: List[str]) 
         return rule
     is_quoted = before.count("`") % 2 == 1
     hint = _IN_TERMS.get(token, "") if is_quoted else "; a command ends with `;;`" if token == ";" else ""
+    if before[:1] == ["deftac"] and len(before) == 2 and token == "=":
+        hint = "; the expression stands right behind the name: %s" % notation.COMMANDS["deftac"]
     if text.startswith("new_type") and token.isdigit():
         hint = "; a type constructor takes 0 to 16 arguments"
     if text.startswith("new_definition") and token in ("/\\", "\\/", "==>", "<=>"):

@@ -62,7 +62,7 @@ class Command:
 
     @property
     def name(self) -> str:
-        """The command's second word: of `g`, `import` and the `new_` commands, the name that it is about."""
+        """The command's second word: of `g`, `deftac`, `import` and the `new_` commands, the name that it is about."""
         words = _WORD.findall(self.text.split("`")[0])
         return words[1] if len(words) > 1 else ""
 

@@ -2,7 +2,8 @@
 
 from __future__ import annotations
 
-from typing import Optional, Sequence, Tuple
+import re
+from typing import List, Optional, Sequence, Tuple
 
 from holls import notation, protocol, syntax
 from holls.protocol import Refusal
@@ -25,11 +26,20 @@ _FIXED = {
     protocol.NOT_REFLECTED: "the type variable %s occurs in the definition and not in the constant's type: annotate the constant",
 }
 
-_TYPE_DEFINITION = "new_basic_type_definition"
-_OF_TYPE_DEFINITIONS = {
-    protocol.NOT_CLOSED: "%s is free in the P of the theorem `P x`: the type's condition has to be closed",
-    protocol.BAD_RULE: "%s takes a theorem `P x` as its last name, and this one is no application",
+_OF_COMMANDS = {
+    "new_basic_type_definition": {
+        protocol.NOT_CLOSED: "%s is free in the P of the theorem `P x`: the type's condition has to be closed",
+        protocol.BAD_RULE: "%s takes a theorem `P x` as its last name, and this one is no application",
+    },
+    "deftac": {
+        protocol.TOO_LARGE: "too large: a term here, or the expression with its terms, its theorems and the expressions that it names, has over "
+                            "20,000 nodes",
+    },
 }
+"""What some commands' refusals say."""
+
+_ARGUMENT = re.compile(r"\s*([`(\[]|(?!(THEN|THENL|ORELSE)(?![A-Za-z0-9_']))[A-Za-z_])")
+"""An argument behind a function's name."""
 
 
 _QUOTED = {
@@ -55,6 +65,7 @@ def explain(text: str, refusal: Refusal, opened: Optional[str] = None) -> Told:
         if missing:
             return missing
     start, end = _marked(text, number, refusal.argument)
+    own = _OF_COMMANDS.get(notation.token(text, 0) or "", {})
     if number == protocol.IN_A_PROOF:
         words = "a proof is open: %s; end it by qed;; or give it up by oops;;" % (opened or "end it first")
     elif number == protocol.UNKNOWN_TAC:
@@ -62,15 +73,16 @@ def explain(text: str, refusal: Refusal, opened: Optional[str] = None) -> Told:
     elif number == protocol.REFUSED:
         words = _refused(text, refusal.argument)
     elif number == protocol.NAME_TAKEN:
-        twice = " or is made twice here" if text.split().count(refusal.argument.split(":")[-1]) > 1 else ""
+        is_twice = text.startswith("new_") and text.split().count(refusal.argument.split(":")[-1]) > 1
+        twice = " or is made twice here" if is_twice else ""
         words = "%s stands already%s: choose another name" % (_key(refusal.argument), twice)
     elif number == protocol.IMPORT_CLASH:
         words = _FIXED[number] % _key(refusal.argument)
-    elif text.startswith(_TYPE_DEFINITION) and number in _OF_TYPE_DEFINITIONS:
-        words = _OF_TYPE_DEFINITIONS[number] % refusal.argument
+    elif number in own:
+        words = own[number].replace("%s", refusal.argument)
     else:
         words = _FIXED.get(number, refusal.text + " %s").replace("%s", refusal.argument).strip()
-    return start, end, words
+    return start, end, words + _inside(text, number, refusal.argument)
 
 
 def rests(items: Sequence[str]) -> str:
@@ -81,7 +93,7 @@ def rests(items: Sequence[str]) -> str:
 def _key(argument: str) -> str:
     """A key as `thm:N` in words."""
     kind, _, name = argument.partition(":")
-    return "%s %s" % ({"thm": "the theorem", "const": "the constant", "type": "the type"}.get(kind, kind), name)
+    return "%s %s" % ({"thm": "the theorem", "const": "the constant", "type": "the type", "tac": "the function on goals"}.get(kind, kind), name)
 
 
 def _place(text: str, refusal: Refusal) -> int:
@@ -93,11 +105,27 @@ def _place(text: str, refusal: Refusal) -> int:
 def _marked(text: str, number: int, argument: str) -> Tuple[int, int]:
     """The range of the name that a refusal is about. Where it is a function's that is called more than once, all its calls are in it."""
     name = argument.split(":")[-1]
-    places = notation.word_ranges(text, name)
+    places = notation.word_ranges(text, name) if number == protocol.NAME_TAKEN else _uses(text, name)
     if not places:
-        return _first_word(text)
-    is_any = number in (protocol.REFUSED, protocol.HYPOTHESES, protocol.BAD_RULE) or number == protocol.UNKNOWN_TAC and name in notation.TACS
+        return _expression(text) if number in _OF_CALLS else _first_word(text)
+    is_any = number in _OF_CALLS or number == protocol.BAD_RULE or number == protocol.UNKNOWN_TAC and name in notation.TACS
     return places[0][0], places[-1 if is_any else 0][1]
+
+
+def _uses(text: str, name: str) -> List[Tuple[int, int]]:
+    """Where a name stands outside quotations, but for the one that `deftac` gives."""
+    return [where for where in notation.word_ranges(text, name) if not notation.is_made_name(text, where[0])]
+
+
+def _expression(text: str) -> Tuple[int, int]:
+    """The range of a step's expression."""
+    _, end = _first_word(text)
+    return end + len(text[end:]) - len(text[end:].lstrip()), len(text)
+
+
+def _inside(text: str, number: int, name: str) -> str:
+    """What is said where the function that a refusal is about stands inside a named one."""
+    return "; it stands in an expression that is named here" if number in _OF_CALLS and not _uses(text, name) else ""
 
 
 def _first_word(text: str) -> Tuple[int, int]:
@@ -128,12 +156,15 @@ def _unknown_tac(text: str, name: str, start: int) -> str:
         instead = notation.ELSEWHERE[name]
         return "HOL Light's %s isn't here%s" % (name, ": " + instead if instead else "; docs/TACTICS.md lists the functions on goals that are")
     near = notation.near(name, notation.TACS)
-    return "there is no function on goals %s%s" % (name, "; did you mean %s?" % near if near else "")
+    meant = "; did you mean %s?" % near if near else ""
+    if any(_ARGUMENT.match(text, end) or _handing(text, first) for first, end in _uses(text, name)):
+        return "no function on goals %s takes arguments: what deftac names takes none%s" % (name, meant)
+    return "there is no function on goals %s%s" % (name, meant)
 
 
 def _handing(text: str, start: int) -> Optional[str]:
     """The tactical that hands a theorem to the function at a place, or None."""
-    before = [token for token in notation.tokens_before(text, start) if token != "("]
+    before = [token for token in notation.tokens_before(notation.without_quotations(text), start) if token != "("]
     return before[-1] if before and before[-1] in notation.HANDING else None
 
 
@@ -156,6 +187,9 @@ _FITS = {
     "DISCH_THEN": "p ==> q or ~p", "POP_ASSUM": "a goal with an assumption", "FIRST_ASSUM": "an assumption that its function takes",
 }
 """What functions on goals and tacticals want, where they refuse some goals."""
+
+_OF_CALLS = (protocol.HYPOTHESES, protocol.REFUSED)
+"""The refusals that name what was run."""
 
 _OF_TACTICALS = {
     "THENL": "THENL needs as many expressions in its list as there are goals where it stands", "FIRST": "FIRST has nothing to try",

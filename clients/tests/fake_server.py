@@ -3,7 +3,7 @@
 
     fake_server.py [--serve OP,..] [--fault KIND:N] [--once FILE] [--log FILE] [--meet FOLDER]
 
-It runs `g`, `e`, `qed`, `oops`, `import`, `new_constant`, `new_axiom`, and serves `replace`, `remove`, `drop_theory` or those of them
+It runs `g`, `e`, `qed`, `oops`, `import`, `deftac`, `new_constant`, `new_axiom`, and serves `replace`, `remove`, `drop_theory` or those of them
 that are named. As the program does, an edit runs the command that it puts and each one that reads something else than before, is answered
 when these have run, and is made as a whole or not at all; a report runs nothing. Its terms are texts: CONJ_TAC splits at the first ` /\\ `,
 REFL_TAC closes `s = s`, ALL_TAC keeps the goal, and so do those that take their time: SLOW_TAC two seconds, MEET_TAC until a second server
@@ -54,13 +54,15 @@ def take_time(name, goal):
 
 
 class State:
-    """The state of a theory after some commands: its theorems, and the open proof's name, statement and goals."""
+    """The state of a theory after some commands: its theorems and named functions, and the open proof's name, statement and goals."""
 
     def __init__(self):
+        self.functions = {}
         self.theorems, self.proof, self.goals = {}, None, []
 
     def copy(self):
         other = State()
+        other.functions = dict(self.functions)
         other.theorems, other.proof, other.goals = dict(self.theorems), self.proof, list(self.goals)
         return other
 
@@ -70,7 +72,7 @@ class State:
 
     def run(self, text, earlier):
         word, rest = COMMAND.match(text).groups() if COMMAND.match(text) else ("", "")
-        runs = {"g": self.open, "e": self.step, "qed": self.end, "new_axiom": self.state, "new_constant": self.state}
+        runs = {"g": self.open, "e": self.step, "deftac": self.name, "qed": self.end, "new_axiom": self.state, "new_constant": self.state}
         if word in runs:
             return runs[word](rest, text)
         if word == "oops":
@@ -83,7 +85,10 @@ class State:
         """What a command reads, which decides what it does; None of a text that isn't run but answered from the state."""
         word, rest = COMMAND.match(text).groups() if COMMAND.match(text) else ("", "")
         if word in ("e", "qed"):
-            return self.proof if word == "qed" else self.proof is None, tuple(self.goals if word == "qed" else self.goals[:1])
+            goals = tuple(self.goals if word == "qed" else self.goals[:1])
+            return self.proof if word == "qed" else self.proof is None, goals, self.functions.get(rest)
+        if word == "deftac":
+            return self.proof is None, *map(self.functions.get, rest.split())
         name = rest.split("`")[0].strip()
         return (self.proof is None, name in self.theorems) if word in ("g", "new_axiom", "new_constant") else None
 
@@ -113,16 +118,31 @@ class State:
         self.theorems[named[1]] = named[2].strip()
         return {"made": ["thm %s |- %s" % (named[1], named[2].strip())], "ok": True}
 
+    def name(self, rest, text):
+        named = re.match(r"(\w+)\s+(\w+)\Z", rest)
+        if not named:
+            return refusal(1, "syntax", str(len(text)))
+        if self.proof:
+            return refusal(2, "in a proof")
+        function = self.functions.get(named[2], named[2])
+        if function not in FUNCTIONS:
+            return refusal(6, "unknown TAC or wrong arguments", named[2])
+        if named[1] in self.functions or named[1] in FUNCTIONS:
+            return refusal(10, "name taken", "tac:" + named[1])
+        self.functions[named[1]] = function
+        return {"made": ["tac " + named[1]], "ok": True}
+
     def step(self, rest, _):
         if not self.proof:
             return refusal(3, "no proof open")
-        if rest not in FUNCTIONS:
+        function = self.functions.get(rest, rest)
+        if function not in FUNCTIONS:
             return refusal(6, "unknown TAC or wrong arguments", rest.split()[0] if rest else "")
         if not self.goals:
             return refusal(16, "no goal open")
-        left = self.left(rest, self.goals[0])
+        left = self.left(function, self.goals[0])
         if left is None:
-            return refusal(17, "refused", rest)
+            return refusal(17, "refused", function)
         self.goals[:1] = left
         return self.report()
 
@@ -158,8 +178,10 @@ class State:
         if name not in earlier:
             return refusal(4, "unknown theory", name)
         new = {key: value for key, value in earlier[name].theorems.items() if key not in self.theorems}
+        named = {key: value for key, value in earlier[name].functions.items() if key not in self.functions}
         self.theorems.update(new)
-        return {"made": ["thm %s |- %s" % pair for pair in new.items()], "ok": True}
+        self.functions.update(named)
+        return {"made": ["thm %s |- %s" % pair for pair in new.items()] + ["tac " + key for key in named], "ok": True}
 
 
 EMPTY = State()
@@ -177,7 +199,8 @@ class Slot:
         self.read, after = before.reads(text), before.copy()
         self.is_run = self.read is not None and self.read != old.read
         if self.is_run and text.startswith("e ") and before.goals:
-            take_time(text[2:].strip(), before.goals[0])
+            name = text[2:].strip()
+            take_time(before.functions.get(name, name), before.goals[0])
         self.reply = after.run(text, earlier)
         self.after = old.after if old.before is not None and vars(old.after) == vars(after) else after
 

@@ -38,8 +38,17 @@ class Replies(unittest.TestCase):
     def test_groups(self):
         self.compare("groups")
 
+    def test_tactics(self):
+        self.compare("tactics")
+
+    def test_laws(self):
+        self.compare("laws")
+
+    def test_relations(self):
+        self.compare("relations")
+
     def test_there_are_no_others(self):
-        self.assertEqual(set(replies.THEORIES), {"connectives", "maps", "pairs", "groups"})
+        self.assertEqual(set(replies.THEORIES), {"connectives", "maps", "pairs", "groups", "tactics", "laws", "relations"})
 
     def test_the_readmes_session_is_what_the_program_says(self):
         session = in_fences((ROOT / "README.md").read_text(encoding="utf-8"))

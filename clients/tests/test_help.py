@@ -80,6 +80,15 @@ class Actions(unittest.TestCase):
         self.assertEqual((titles, text.splitlines()[1:3]), (["Import B, which makes WANTED"], ["import C;;", "import B;;"]))
 
 
+    def test_the_theory_that_names_a_function_is_imported_and_its_name_mended(self):
+        other = File("B.hol")
+        other.take("deftac BY_PARTS CONJ_TAC;;")
+        titles, text = refused("g A `p`;;\ne BY_PARTS;;\noops;;", 1, Refusal(6, "BY_PARTS", ""), [other])
+        self.assertEqual((titles, text.splitlines()[0]), (["Import B, which makes BY_PARTS"], "import B;;"))
+        titles, text = refused("deftac CLOSE_TAC REFL_TAC;;\ng A `p`;;\ne CLSE_TAC;;\noops;;", 2, Refusal(6, "CLSE_TAC", ""))
+        self.assertEqual((titles, text.splitlines()[2]), (["Replace by CLOSE_TAC"], "e CLOSE_TAC;;"))
+
+
 class Signatures(unittest.TestCase):
     def at_end(self, text):
         file = taken("g A `p`;;\n" + text)
@@ -92,6 +101,7 @@ class Signatures(unittest.TestCase):
         self.assertEqual(self.at_end("e X_CHOOSE_TAC `x"), ("X_CHOOSE_TAC `v` th", 0))
         self.assertEqual(self.at_end("e CONJ_TAC THEN MATCH_MP_TAC (SPEC `x` "), ("SPEC `t` th", 1))
         self.assertEqual(self.at_end("e MATCH_MP_TAC (SPEC `x` TH) THEN REWRITE_TAC [A; "), ("REWRITE_TAC [th; ..]", 0))
+        self.assertEqual(self.at_end("deftac CLOSE_TAC CONJ_TAC THEN ACCEPT_TAC "), ("ACCEPT_TAC th", 0))
         self.assertIsNone(self.at_end("e CONJ_TAC "))
         self.assertIsNone(self.at_end("qed "))
 

@@ -6,14 +6,14 @@ import re
 import tempfile
 import unittest
 
-from holls import binders, manual, notation, protocol
-from holls.lsp import completion, hovering, lookup
+from holls import binders, manual, names, notation, protocol
+from holls.lsp import completion, features, hovering, lookup
 from holls.lsp.navigation import Navigation
 from holls.lsp.workspace import Workspace
 from tests.fake_server import Documents
-from tests.helpers import ROOT
+from tests.helpers import CLIENTS, ROOT
 
-A = "new_constant c `:A->bool`;;\ng ONCE `x = x /\\ y = y`;;\ne CONJ_TAC;;\ne REFL_TAC;; e REFL_TAC;;\nqed;;\ng GONE `x = x`;; oops;;\n"
+A = "new_constant c `:A->bool`;;\ng ONCE `x = x /\\ y = y`;;\ne CONJ_TAC;;\ne REFL_TAC;; e REFL_TAC;;\nqed;;\ng GONE `x = x`;; oops;;\ndeftac HALVES CONJ_TAC;;\n"
 B = "import A;;\nnew_definition D_DEF `d x = c x`;;\nnew_basic_type_definition ty abs rep ABS_REP REP_ABS ONCE;;\n"
 C = "import B;;\n(* ONCE *)\ng LAST `c x = d (abs x)`;;\ne ACCEPT_TAC ONCE;;\ne REWRITE_TAC [D_DEF; ABS_REP];;\nqed;;\ne \n"
 
@@ -120,6 +120,43 @@ class InAProject(unittest.TestCase):
         self.assertEqual(used("!c:"), [(1, 18), (2, 16)])
         self.assertEqual(used("c) /\\ "), [(1, 13), (2, 36)])
 
+    def test_a_named_function_is_completed_shown_and_found_and_no_theorem_of_its_name(self):
+        text = ("import B;;\ndeftac ONCE REPEAT\n  HALVES;;\ndeftac ABS_REP ONCE;;\ng N `HALVES /\\ p`;;\n"
+                "e ONCE THENL [HALVES; TRY (ACCEPT_TAC ONCE); SUBGOAL_THEN `p` ABS_REP];;\ne H")
+        document = self.workspace.open((self.folder / "N.hol").as_uri(), 1, text)
+        files = self.workspace.groups()[str(self.folder)]
+
+        def word(before):
+            return lookup.word(files, document.file, text.index(before) + len(before))
+
+        self.assertEqual(hovering.of_word(word("REPEAT\n  "), None), "```hol\ndeftac HALVES CONJ_TAC\n```\n\nfunction on goals of A")
+        shown = "```hol\ndeftac ONCE REPEAT HALVES\n```\n\nfunction on goals of N, not proved or checked yet"
+        self.assertEqual([hovering.of_word(word(before), None) for before in ("deftac ", "ABS_REP ", "\ne ")], [shown] * 3)
+        self.assertEqual(word("ACCEPT_TAC ").known.kind, names.THEOREM)
+        self.assertEqual(word("`p` ").known.kind, names.TACTIC)
+        self.assertIsNone(word("g N `").known)
+
+        def used(before):
+            found = self.navigation.references(document, files, text.index(before) + len(before), True)
+            return sorted((pathlib.PurePosixPath(one["uri"]).name, one["range"]["start"]["line"]) for one in found)
+
+        self.assertEqual(used("REPEAT\n  "), [("A.hol", 6), ("N.hol", 2), ("N.hol", 5)])
+        self.assertEqual(used("deftac "), [("N.hol", 1), ("N.hol", 3), ("N.hol", 5)])
+        self.assertEqual(used("ACCEPT_TAC "), [("A.hol", 1), ("B.hol", 2), ("C.hol", 3), ("N.hol", 5)])
+        found = self.navigation.definition(document, files, text.index("HALVES"))
+        self.assertEqual((pathlib.PurePosixPath(found["uri"]).name, found["range"]["start"]), ("A.hol", {"line": 6, "character": 7}))
+
+        def completed(before):
+            found = completion.at(files, [], document.file, text.rindex(before) + len(before))
+            return {one["label"]: (one["detail"], one["sortText"]) for one in found if one["kind"] == completion.METHOD}
+
+        self.assertEqual(completed("\ne ")["HALVES"], ("CONJ_TAC", "0HALVES"))
+        self.assertEqual(completed("ABS_REP ")["ONCE"], ("REPEAT HALVES", "0ONCE"))
+        self.assertEqual(completed("ACCEPT_TAC ")["HALVES"][1], "3HALVES")
+        self.assertEqual((completed("g N `"), completed("deftac ")), ({}, {}))
+        outline = [(one["name"], one["kind"], one["detail"]) for one in features.symbols(document.file)]
+        self.assertEqual(outline[:2], [("ONCE", 6, "REPEAT HALVES"), ("ABS_REP", 6, "ONCE")])
+
     def target(self, text, more=0):
         found = self.navigation.definition(self.document, self.files, C.index(text) + more)
         return found and (pathlib.PurePosixPath(found["uri"]).name, found["range"]["start"]["line"], found["range"]["start"]["character"])
@@ -186,6 +223,15 @@ class Manual(unittest.TestCase):
         self.assertEqual(set(manual.TACTICALS), set(notation.TACTICALS))
         self.assertEqual((set(manual.RULES), set(manual.COMMANDS)), (set(notation.FORWARD), set(notation.COMMANDS)))
         self.assertEqual(set(manual.TACTICALS) | set(manual.RULES), set(protocol.RESERVED))
+
+    def test_the_editors_colour_its_commands_and_tacticals(self):
+        vim = (CLIENTS / "neovim" / "syntax" / "hol.vim").read_text(encoding="utf-8")
+        code = json.loads((CLIENTS / "vscode" / "syntaxes" / "hol.tmLanguage.json").read_text(encoding="utf-8"))["patterns"]
+        for group, name, own in (("holCommand", "keyword.control.hol", notation.COMMANDS), ("holTactical", "keyword.operator.hol", notation.TACTICALS)):
+            words = re.search(r"^syntax keyword %s (.*)$" % group, vim, re.M).group(1).split()
+            self.assertEqual(set(words), set(own))
+            matched = next(one["match"] for one in code if one.get("name") == name)
+            self.assertEqual(set(re.search(r"\(([a-zA-Z_|]+)\)", matched).group(1).split("|")), set(own))
 
     def test_the_preludes_statements_are_those_of_the_page(self):
         page = (ROOT / "docs" / "NOTATION.md").read_text(encoding="utf-8")

@@ -231,6 +231,15 @@ class Editing(InBrowser):
         shown.key("Enter")
         shown.type(";;")
         self.assertEqual(self.errors(), [])
+        self.write("deftac HALVES CONJ_TAC;;\n")
+        self.assertEqual(self.errors(), [])
+        shown.type("g C `p /\\ q`;;\ne HALV")
+        shown.until("!document.getElementById('choices').hidden")
+        self.assertEqual(shown.value("document.querySelector('#choices li').textContent.replace(/\\s+/g, ' ')"), "HALVES CONJ_TAC")
+        shown.key("Tab")
+        shown.type(";;")
+        self.settled()
+        self.assertEqual(self.goals(), ["p", "q"])
         self.write("g B `\\forall")
         for letter in " x. p \\and ":
             shown.key(letter, text=letter)
@@ -385,7 +394,8 @@ class Words(InBrowser):
         "g A `!(x) y. p`\ne REFL_TAC\nqed", "e (GEN_TAC", "new_type A 77", "new_definition A `c = p /\\ q`", "g A `f !x. p`", "g A `x`;",
         "e SPEC", "g toString `constructor`", "e toString", "e valueOf THEN constructor", "qed qed", "*) g A `p`",
         "e FIRST_ASSUM REWRITE_TAC", "new_basic_type_definition A B C D E F", "e REFL_TAC THEN REFL_TAC", "e CHANGED_TAC ALL_TAC",
-        "import A", "b x", "r x",
+        "import A", "b x", "r x", "deftac", "deftac A", "deftac A A", "deftac (A)", "deftac A = TRY A", "deftac qed", "e DISCH_THEN (A)", "e A `x`", "e SUBGOAL_THEN `p` A",
+        "e A THEN A THENL []", "e (A) ORELSE A [x]", "e ALL_TAC\ndeftac A ALL_TAC",
     ]
     PIECES = ["(*", "*)", ";;", "∀", "∃!", "∃", "¬", "→", "`", " ", "\n", "a", "=", "\\", "😀", "\ufeff", "g A `p`", "/", "\\/"]
 
@@ -432,7 +442,7 @@ class Words(InBrowser):
         cases = []
         for content in self.TEXTS:
             cases += [(content, protocol.SYNTAX, str(at)) for at in range(len(content) + 1)]
-            names = sorted({*content.replace("`", " ").split(), "x", "thm:A", "const:c", "type:t", "0", "4", "99"})
+            names = sorted({*content.replace("`", " ").split(), "x", "thm:A", "const:c", "type:t", "tac:A", "0", "4", "99"})
             cases += [(content, number, name) for number in range(2, 22) for name in names]
         told = shown.value("""import('/words.js').then(({ explain }) => %s.map(
             ([text, number, argument]) => explain(text, { number, argument, text: 'said' }, 'that of A')))""" % json.dumps(cases))

@@ -2,16 +2,18 @@
 
 import pathlib
 import random
+import re
 import subprocess
 import tempfile
 import time
 import unittest
 
 from holls import files, names, server
-from holls.protocol import Goals
-from holls.prover import command, finding, ground, reading, retyping, scope, scripts, sequents, substituting, tables, typed, writing
+from holls.protocol import Goal, Goals, Refusal
+from holls.prover import command, finding, ground, named, reading, retyping, scope, scripts, sequents, substituting, tables, trying, typed, writing
 from holls.prover.asking import Asker
 from holls.prover.finder import Finder
+from holls.prover.scripts import Step
 from tests.helpers import BUILT, CLIENTS, HOLLS, PYTHON, ROOT, SECONDS, fake
 
 GOALS = CLIENTS / "tests" / "goals"
@@ -95,6 +97,15 @@ class Terms(unittest.TestCase):
         self.assertEqual(typed.binary(goal)[1], typed.binary(goal)[2])
         self.assertIsNone(substituting.plan(equations[1:], None, reading.term("(p:C) = q", signature)))
 
+    def test_named_functions_and_the_variables_that_they_name(self):
+        known = standing()
+        known.add_file(theory("tactics"))
+        found = named.Functions(known.functions)
+        self.assertEqual(known.functions["TABLE_TAC"], frozenset("pqr"))
+        self.assertEqual(found.at(Goal(("f q",), ("f:bool->bool", "q:bool"), "q")), [
+            "EXT_TAC", "CASES_Q", "TABLE_TAC", "CLOSE_TAC", "STRIPS_TAC", "BOTH_WAYS_TAC"])
+        self.assertEqual(found.at(Goal((), ("q':bool",), "q'")), ["EXT_TAC", "CLOSE_TAC", "STRIPS_TAC", "BOTH_WAYS_TAC"])
+
     def test_a_theorem_at_the_types_of_a_goal(self):
         known = standing(3)
         goal = known.theorems["SWAP_BIJECTIVE"]
@@ -175,6 +186,17 @@ class CommandLine(unittest.TestCase):
     def test_a_goal_behind_a_refused_step(self):
         self.assertEqual(self.prove("g A `x = x`;;\ne FOO_TAC;;\nqed;;\n", 3), (0, "e REFL_TAC;;\n"))
 
+    def test_named_functions_on_goals(self):
+        below = "g A `x = x`;;\noops;;\ndeftac LATER REFL_TAC;;"
+        self.assertEqual(self.prove("deftac CLOSE REFL_TAC;;\ndeftac GONE FOO_TAC;;\n" + below, 3), (0, "e CLOSE;;\n"))
+        self.assertEqual(self.prove(below, 1), (0, "e REFL_TAC;;\n"))
+
+    def test_functions_that_end_the_program_or_give_no_answer(self):
+        text = "deftac DIE DIE_TAC;;\ndeftac HANG HANG_TAC;;\ndeftac CLOSE REFL_TAC;;\ng A `%s`;;\n"
+        self.assertEqual(self.prove(text % "big = big", 4, "--seconds", "20"), (0, "e CLOSE;;\n"))
+        self.assertEqual(self.prove(text % "loop = loop", 4, "--seconds", "20"), (0, "e CLOSE;;\n"))
+        self.assertEqual(self.prove(text % "big loop = big loop", 4, "--seconds", "20"), (0, "e REFL_TAC;;\n"))
+
 
 def proved(asker, known, text, seconds):
     """The steps that are found for a goal that nothing is assumed in, and how long the search took."""
@@ -227,11 +249,108 @@ class OverTheProgram(unittest.TestCase):
     def test_equations(self):
         self.find_all("equations", 10)
 
+    def test_calls_that_nothing_needs_are_left_out(self):
+        self.asker.copy(["g GOAL `(p /\\ q ==> q /\\ p) /\\ (r ==> r)`", "e CONJ_TAC"])
+        goals, closing = self.asker.report(1), "CONJ_TAC THEN FIRST_ASSUM ACCEPT_TAC"
+        long = ["e REPEAT GEN_TAC THEN STRIP_TAC", "e ASSUME_TAC (ASSUME `p:bool`) THEN " + closing]
+        self.assertEqual(trying.fewer(self.asker, long, goals, time.monotonic() + SECONDS), ["e STRIP_TAC", "e " + closing])
+        self.assertTrue(trying.check(self.asker, ["e STRIP_TAC THEN " + closing], goals))
+        self.assertFalse(trying.check(self.asker, ["e STRIP_TAC THEN " + closing, "e DISCH_TAC"], goals))
+        self.assertEqual(self.asker.count, 2)
+        self.asker.forget()
+        self.assertEqual(proved(self.asker, scope.Scope(), "p /\\ q ==> p", SEARCH_SECONDS)[0], ["e REPEAT STRIP_TAC"])
+
     def test_what_has_no_proof_gets_none_in_time(self):
         for name, goal in stored("unprovable"):
             steps, took = proved(self.asker, scope.Scope(), goal, 2.0)
             self.assertIsNone(steps, name)
             self.assertLess(took, 10, name)
+
+
+class Naming(Asker):
+    """Names stand for expressions in what is sent: so named functions on goals are tried over a program that may have no `deftac`."""
+
+    functions = {"SPLIT_TAC": "EQ_TAC THEN STRIP_TAC", "TABLE_TAC": "REPEAT GEN_TAC THEN CASES_TAC THEN ASM_REWRITE_TAC []",
+                 "CASES_TAC": "DISJ_CASES_TAC (SPEC `p:bool` MIDDLE)", "EXT_TAC": "MATCH_MP_TAC EXT THEN GEN_TAC", "HALVES": "CONJ_TAC"}
+
+    def step(self, text, until=None):
+        for name, expression in self.functions.items():
+            text = re.sub(r"\b%s\b" % name, lambda _: "(%s)" % expression, text)
+        return super().step(text, until)
+
+
+@unittest.skipUnless(BUILT.is_file(), "hol_serve isn't built")
+class NamedFunctions(unittest.TestCase):
+    AXIOMS = ("new_axiom MIDDLE `!t. t \\/ ~t`", "new_axiom EXT `!(f:A->B) g. (!x. f x = g x) ==> f = g`")
+
+    def setUp(self):
+        self.asker = Naming(server.find(str(BUILT)), SECONDS)
+        self.addCleanup(self.asker.stop)
+        self.known = scope.Scope()
+        self.known.theorems["MIDDLE"] = scripts.MIDDLE
+
+    def found(self, goal, *functions, theorems=None):
+        """The steps that are found where some functions stand."""
+        self.known.functions = dict.fromkeys(functions, frozenset())
+        self.asker.copy([*self.AXIOMS, "g GOAL `%s`" % goal])
+        goals = self.asker.report(len(self.AXIOMS))
+        steps = Finder(self.asker, self.known, goals, goal, time.monotonic() + SEARCH_SECONDS).find(theorems)
+        self.asker.forget()
+        return steps
+
+    def used(self, goal, step, *functions):
+        """The commands of steps into which uses are put; None where there are none."""
+        self.asker.copy([*self.AXIOMS, "g GOAL `%s`" % goal])
+        goals = self.asker.report(len(self.AXIOMS))
+        made = named.Uses(self.asker, named.Functions(dict.fromkeys(functions, frozenset())), goals, time.monotonic() + SECONDS).shortened(step)
+        self.assertEqual(self.asker.count, len(self.AXIOMS) + 1)
+        self.asker.forget()
+        return made and scripts.commands(made)
+
+    def test_a_use_closes_the_goal(self):
+        goal = "!p q. (p ==> q) <=> (~p \\/ q)"
+        self.assertEqual(self.found(goal, "HALVES", "TABLE_TAC"), ["e TABLE_TAC"])
+        equal = "!(f:A->B) g. (!x. f x = g x) ==> f = g"
+        self.assertEqual(self.found(equal, "EXT_TAC"), ["e REPEAT STRIP_TAC THEN EXT_TAC THEN ASM_REWRITE_TAC []"])
+        self.known.theorems["EXT"] = reading.term(equal, self.known.signature)
+        self.assertEqual(self.found(equal, "EXT_TAC", theorems=["EXT"]), ["e ACCEPT_TAC EXT"])
+        self.assertNotIn("TABLE_TAC", " ".join(self.found(goal)))
+
+    def test_a_use_comes_to_what_steps_come_to(self):
+        goal = "((?x:A. P x) /\\ r) <=> (?x:A. P x /\\ r)"
+        steps = self.found(goal, "SPLIT_TAC")
+        self.assertEqual(steps[0], "e SPLIT_TAC")
+        self.assertLess(sum(map(len, steps)), sum(map(len, self.found(goal))))
+
+    def test_a_use_stands_where_it_saves_something(self):
+        step = Step("EQ_TAC THEN STRIP_TAC THEN CONJ_TAC", (Step("FIRST_ASSUM ACCEPT_TAC"),) * 4)
+        self.assertEqual(self.used("p /\\ q <=> q /\\ p", step, "HALVES", "SPLIT_TAC"), ["e SPLIT_TAC THEN CONJ_TAC THEN FIRST_ASSUM ACCEPT_TAC"])
+        step = Step("EQ_TAC THEN STRIP_TAC THEN CONJ_TAC THEN FIRST_ASSUM ACCEPT_TAC")
+        self.assertIsNone(self.used("p /\\ q <=> q /\\ p", step, "HALVES", "EXT_TAC", "NOWHERE_TAC"))
+        self.assertIsNone(self.used("p /\\ q <=> q /\\ p", Step("CONJ_TAC"), "SPLIT_TAC"))
+        self.assertIsNone(self.used("p <=> p", Step("REFL_TAC"), "TABLE_TAC"))
+
+    def test_expressions_that_then_joins(self):
+        self.assertEqual(trying.pieces("A THEN SUBGOAL_THEN `THEN` (B THEN C) THEN TRY [D; E THEN F] THEN G'"), [
+            "A", "SUBGOAL_THEN `THEN` (B THEN C)", "TRY [D; E THEN F]", "G'"])
+        self.assertEqual(trying.pieces("A THEN B ORELSE C"), ["A THEN B ORELSE C"])
+        self.assertEqual(trying.pieces("A THEN B THENL [C; D]"), ["A THEN B THENL [C; D]"])
+
+    def test_a_file_that_names_them(self):
+        """Where the program has `deftac`: it is asked."""
+        self.asker.copy(["deftac SPLIT_UP EQ_TAC THEN STRIP_TAC"])
+        has_them = not isinstance(self.asker.report(0), Refusal)
+        self.asker.forget()
+        if not has_them:
+            self.skipTest("the program has no deftac")
+        with tempfile.TemporaryDirectory() as folder:
+            path = pathlib.Path(folder) / "A.hol"
+            path.write_text("deftac SPLIT_UP EQ_TAC THEN STRIP_TAC;;\ng A `((?x:A. P x) /\\ r) <=> (?x:A. P x /\\ r)`;;\n")
+            done = subprocess.run([*PYTHON, str(HOLLS), "prove", "%s:2" % path, "--server", str(BUILT)], capture_output=True, timeout=SECONDS, text=True)
+            self.assertTrue(done.stdout.startswith("e SPLIT_UP;;\n"), done)
+            path.write_text(path.read_text() + done.stdout + "qed;;\n")
+            words = [*PYTHON, str(HOLLS), "check", "--server", str(BUILT), str(path)]
+            self.assertEqual(subprocess.run(words, capture_output=True, timeout=SECONDS).returncode, 0)
 
 
 @unittest.skipUnless(BUILT.is_file(), "hol_serve isn't built")

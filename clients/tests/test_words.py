@@ -30,6 +30,41 @@ class OfImports(unittest.TestCase):
     def test_a_clash_says_what_of_which_kind(self):
         self.assertIn("gives the theorem TH another value", said("import A", 21, "thm:TH"))
         self.assertIn("gives the constant c another value", said("import A", 21, "const:c"))
+        self.assertIn("gives the function on goals CL another value", said("import A", 21, "tac:CL"))
+
+
+class OfNamedFunctions(unittest.TestCase):
+    def marked(self, text, number, argument):
+        start, end, words = explain(text, Refusal(number, argument, ""))
+        return start, text[start:end], words
+
+    def test_the_name_and_its_expression(self):
+        self.assertEqual(said("deftac REFL_TAC ALL_TAC", 10, "tac:REFL_TAC"), "the function on goals REFL_TAC stands already: choose another name")
+        self.assertEqual(self.marked("deftac CL TRY CL", 10, "tac:CL"), (7, "CL", "the function on goals CL stands already: choose another name"))
+        self.assertEqual(self.marked("deftac CL CL", 6, "CL"), (10, "CL", "there is no function on goals CL"))
+        self.assertEqual(self.marked("deftac CL ACCEPT_TAC CL", 5, "CL")[0], 21)
+        self.assertIn("the expression with its terms", said("deftac D14 D13 THEN D13", 13, ""))
+        self.assertNotIn("the expression", said("g A `p`", 13, ""))
+
+    def test_it_takes_no_arguments_and_no_theorem(self):
+        for text in ("e CL TRUTH", "e CL `x`", "e CL []", "e CONJ_TAC THEN CL TRUTH", "e DISCH_THEN CL", "e DISCH_THEN (CL)", "e CL (TRUTH)", "e SUBGOAL_THEN `p` CL"):
+            self.assertEqual(self.marked(text, 6, "CL")[1:], ("CL", "no function on goals CL takes arguments: what deftac names takes none"))
+        for text in ("e CL", "e CL THEN CL", "e TRY (CL THENL [])", "e (CL) ORELSE CL"):
+            self.assertEqual(said(text, 6, "CL"), "there is no function on goals CL")
+
+    def test_what_is_refused_inside(self):
+        found = self.marked("e CONJ_TAC THEN CL", 17, "ACCEPT_TAC")
+        self.assertEqual(found[:2], (2, "CONJ_TAC THEN CL"))
+        self.assertTrue(found[2].endswith("a theorem that concludes the goal; it stands in an expression that is named here"), found[2])
+        self.assertTrue(self.marked("e CL", 15, "ACCEPT_TAC")[2].endswith("it stands in an expression that is named here"))
+        self.assertFalse(said("e CONJ_TAC", 17, "CONJ_TAC").endswith("here"))
+
+    def test_slips(self):
+        for text, at, told in (("deftac (ALL_TAC)", "7", "("), ("deftac TRY ALL_TAC", "7", "TRY")):
+            self.assertEqual(self.marked(text, 1, at)[1:], (told, "a name is missing before the expression: deftac NAME TAC"))
+        self.assertIn("the expression stands right behind the name", said("deftac CL = ALL_TAC", 1, "10"))
+        self.assertEqual(said("deftac CL", 1, "9"), "the command ends too soon: something has to follow here")
+        self.assertEqual(said("e REFL_TAC\ndeftac CL ALL_TAC", 1, "18"), "a `;;` is missing before `deftac`")
 
 
 class OfSlips(unittest.TestCase):

@@ -7,8 +7,8 @@ from typing import Any, Dict, Iterable, List, Sequence
 from holls import manual, names, notation
 from holls.files import File
 from holls.lsp.lookup import command_at, is_quoted
-from holls.names import CONSTANT, THEOREM, Known
-from holls.text import SYMBOLS, Command
+from holls.names import CONSTANT, IN_TERMS, TACTIC, THEOREM, Known
+from holls.text import SYMBOLS
 
 KEYWORD, REFERENCE, METHOD, FUNCTION, CONSTANT_KIND, CLASS, MODULE, TEXT = 14, 18, 2, 3, 21, 7, 9, 1
 DETAIL = 160
@@ -34,14 +34,15 @@ def at(files: Sequence[File], theories: Iterable[str], file: File, place: int) -
         return [_item(name, MODULE, "a theory", "0") for name in theories if name != file.theory.name]
     visible = _once(names.visible(files, file, command.start))
     if is_quoted(command, start):
-        return [_known(one, "0" if one.file else "1") for one in visible if one.kind != THEOREM and one.name[0].isalpha()]
+        return [_known(one, "0" if one.file else "1") for one in visible if one.kind in IN_TERMS and one.name[0].isalpha()]
     theorems = [_known(one, "1" if one.file else "2") for one in visible if one.kind == THEOREM]
-    if command.word != "e":
-        return theorems
-    wants_function = _wants_function(command, command.offset(start))
-    first, second = ("0", "3") if wants_function else ("3", "0")
+    offset = command.offset(start)
+    if command.word not in notation.STEPS or notation.is_made_name(command.text, offset):
+        return [] if command.word in notation.STEPS else theorems
+    first, second = ("0", "3") if notation.is_function_place(command.text, offset) else ("3", "0")
     return (
-        [_own(name, entry, METHOD, first) for name, entry in manual.FUNCTIONS.items()]
+        [_known(one, first) for one in visible if one.kind == TACTIC]
+        + [_own(name, entry, METHOD, first) for name, entry in manual.FUNCTIONS.items()]
         + [_own(name, entry, KEYWORD, first + "1") for name, entry in manual.TACTICALS.items()]
         + [_own(name, entry, FUNCTION, second) for name, entry in manual.RULES.items()] + theorems)
 
@@ -49,26 +50,6 @@ def at(files: Sequence[File], theories: Iterable[str], file: File, place: int) -
 def _once(visible: Sequence[Known]) -> List[Known]:
     """Each name of a kind once, the nearest one."""
     return list({(one.kind, one.name): one for one in reversed(visible)}.values())[::-1]
-
-
-def _wants_function(command: Command, offset: int) -> bool:
-    """Whether at a place a function on goals is likelier than a theorem: at a step's beginning, and behind a tactical."""
-    before = notation.tokens_before(command.text, offset)
-    last = before[-1] if before else ""
-    if last in ("[", "(", ";") and len(before) > 1:
-        owner = _owner(before)
-        return owner not in manual.FUNCTIONS and owner not in manual.RULES
-    return last == "e" or last in manual.TACTICALS or last.isdigit()
-
-
-def _owner(before: List[str]) -> str:
-    """The word before the innermost bracket that is open."""
-    depth = 0
-    for at_token in range(len(before) - 1, 0, -1):
-        depth += {")": 1, "]": 1, "(": -1, "[": -1}.get(before[at_token], 0)
-        if depth < 0:
-            return before[at_token - 1]
-    return ""
 
 
 def _symbols(file: File, place: int) -> List[Dict[str, Any]]:
@@ -91,7 +72,7 @@ def _own(name: str, entry: manual.Entry, kind: int, order: str) -> Dict[str, Any
 
 
 def _known(one: Known, order: str) -> Dict[str, Any]:
-    kind = REFERENCE if one.kind == THEOREM else CONSTANT_KIND if one.kind == CONSTANT else CLASS
+    kind = {THEOREM: REFERENCE, TACTIC: METHOD, CONSTANT: CONSTANT_KIND}.get(one.kind, CLASS)
     shown = ("|- " if one.kind == THEOREM else "") + one.shown
     detail = shown if len(shown) <= DETAIL else shown[:DETAIL] + " .."
     return dict(_item(one.name, kind, detail, order), documentation="%s of %s" % (one.kind, one.origin))

@@ -7,11 +7,11 @@ from typing import Any, Dict, List, Optional
 from holls import names
 from holls.files import File
 from holls.findings import Finding, findings
-from holls.names import CONSTANT, THEOREM, TYPE
+from holls.names import CONSTANT, TACTIC, THEOREM, TYPE
 from holls.protocol import Made
 
 FUNCTION = 12
-KINDS = {THEOREM: FUNCTION, CONSTANT: 14, TYPE: 5}
+KINDS = {THEOREM: FUNCTION, CONSTANT: 14, TYPE: 5, TACTIC: 6}
 """The protocol's numbers of the kinds of names."""
 
 
@@ -34,12 +34,13 @@ def diagnostic(file: File, finding: Finding) -> Dict[str, Any]:
 
 def symbols(file: File) -> List[Dict[str, Any]]:
     """The names that the file makes, one a command."""
-    kinds = {"new_constant": KINDS[CONSTANT], "new_type": KINDS[TYPE], "new_basic_type_definition": KINDS[TYPE]}
+    kinds = {"new_constant": KINDS[CONSTANT], "new_type": KINDS[TYPE], "new_basic_type_definition": KINDS[TYPE], "deftac": KINDS[TACTIC]}
     made = []
     for first, last in names.blocks(file):
         command = file.commands[first]
         made.append({
-            "name": command.name or command.word, "kind": kinds.get(command.word, FUNCTION), "detail": names.quoted(command),
+            "name": command.name or command.word, "kind": kinds.get(command.word, FUNCTION),
+            "detail": names.expression(command) or names.quoted(command),
             "range": span(file, command.start, file.commands[last].end),
             "selectionRange": span(file, *names.place_of_name(command, command.name))})
     return made

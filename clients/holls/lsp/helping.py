@@ -39,7 +39,7 @@ def _line(text: str, place: int) -> Tuple[int, int]:
 def signature(file: File, place: int) -> Optional[Dict[str, Any]]:
     """The function whose arguments are written at a place, and which of them."""
     command = lookup.command_at(file, place) or _command_before(file, place)
-    if command is None or command.word != "e":
+    if command is None or command.word not in notation.STEPS:
         return None
     offset = command.offset(place) if place <= command.end else len(command.text)
     before = notation.tokens_before(command.text[:offset] + " ", offset + 1)

@@ -1,4 +1,4 @@
-"""What an editor shows beside a name: how it is written and what it does, or its statement and on what it rests."""
+"""What an editor shows beside a name: how it is written and what it does, or its statement and on what it rests, or its expression."""
 
 from __future__ import annotations
 
@@ -7,9 +7,9 @@ from typing import Optional
 from holls import binders, manual, names
 from holls.files import File
 from holls.lsp.lookup import Word
-from holls.names import CONSTANT, THEOREM, Known
+from holls.names import CONSTANT, IN_TERMS, TACTIC, THEOREM, Known
 
-KINDS = {THEOREM: "theorem", CONSTANT: "constant"}
+KINDS = {THEOREM: "theorem", CONSTANT: "constant", TACTIC: "function on goals"}
 
 
 def of_word(word: Word, more: Optional[str]) -> Optional[str]:
@@ -50,7 +50,7 @@ def question(file: File, word: Word) -> Optional[str]:
     place = word.command.offset(word.start)
     used = binders.names(word.command.text, place)
     is_other = any(
-        one.name in used and one.kind != THEOREM and file.commands[one.number].start > word.command.start for one in names.written(file))
+        one.name in used and one.kind in IN_TERMS and file.commands[one.number].start > word.command.start for one in names.written(file))
     return None if is_other else binders.question(word.command.text, place)
 
 

@@ -7,7 +7,7 @@ from typing import Optional, Sequence
 
 from holls import binders, manual, names, notation
 from holls.files import File
-from holls.names import CONSTANT, THEOREM, TYPE, Known
+from holls.names import CONSTANT, TYPE, Known
 from holls.text import Command
 
 
@@ -57,6 +57,13 @@ def word(files: Sequence[File], file: File, place: int) -> Optional[Word]:
     if quoted:
         kinds = (TYPE,) if binders.is_in_type(command.text, offset) else (CONSTANT,)
         return Word(name, start, end, command, True, known=names.find(files, file, place, name, kinds))
+    known = _made(file, command, start, name) or names.find(files, file, place, name, (names.kind_outside(command, offset),))
+    return Word(name, start, end, command, False, known=known)
+
+
+def _made(file: File, command: Command, start: int, name: str) -> Optional[Known]:
+    """The name at a place as what its command makes, where it does."""
+    if command.word in notation.STEPS and not notation.is_made_name(command.text, command.offset(start)):
+        return None
     number = file.number_at(start)
-    made = next((one for one in names.known(file) if one.number == number and one.name == name), None)
-    return Word(name, start, end, command, False, known=made or names.find(files, file, place, name, (THEOREM,)))
+    return next((one for one in names.known(file) if one.number == number and one.name == name), None)

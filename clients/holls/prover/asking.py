@@ -4,7 +4,7 @@ from __future__ import annotations
 
 import queue
 import time
-from typing import Any, Dict, List, Optional, Sequence, Union
+from typing import Any, Dict, List, Optional, Sequence, Tuple, Union
 
 from holls import protocol
 from holls.protocol import Goals, Made, Refusal
@@ -21,11 +21,26 @@ class Asker:
     """A server in which theories stand, and a copy of a proof behind them, whose next steps are tried."""
 
     def __init__(self, program: Sequence[str], seconds: float) -> None:
-        self.seconds = seconds
+        self.program, self.seconds = list(program), seconds
+        self._stand: List[Tuple[str, List[str]]] = []
+        self._begin()
+
+    def _begin(self) -> None:
         self._events: "queue.Queue[object]" = queue.Queue()
-        self._server = Server(list(program), self._events)
-        self._theories = 0
-        self.count = 0
+        self._server = Server(self.program, self._events)
+
+    def _renew(self) -> None:
+        """Has what stands in a fresh server."""
+        self.stop()
+        self._begin()
+        stood, self._stand = self._stand, []
+        for theory, texts in stood:
+            self.add(theory, texts)
+
+    @property
+    def count(self) -> int:
+        """How many commands the copy has."""
+        return len(self._stand[-1][1])
 
     def stop(self) -> None:
         """Ends the server."""
@@ -51,9 +66,9 @@ class Asker:
 
     def add(self, theory: str, texts: Sequence[str]) -> None:
         """Puts a theory behind those that stand."""
-        requests = [{"op": "new_theory", "name": theory, "at": self._theories}]
+        requests = [{"op": "new_theory", "name": theory, "at": len(self._stand)}]
         requests += [{"op": "insert", "theory": theory, "at": at, "text": text} for at, text in enumerate(texts)]
-        self._theories += 1
+        self._stand.append((theory, list(texts)))
         self._ask_all(requests)
 
     def _ask_all(self, requests: Sequence[Dict[str, Any]]) -> None:
@@ -65,17 +80,16 @@ class Asker:
     def copy(self, texts: Sequence[str]) -> None:
         """Puts the commands of a proof up to where it is."""
         self.add(THEORY, texts)
-        self.count = len(texts)
 
     def extend(self, texts: Sequence[str]) -> None:
         """Puts more commands behind those of the copy."""
         self._ask_all([{"op": "insert", "theory": THEORY, "at": self.count + at, "text": text} for at, text in enumerate(texts)])
-        self.count += len(texts)
+        self._stand[-1][1].extend(texts)
 
     def forget(self) -> None:
         """Takes the copy out."""
         self.ask({"op": "drop_theory", "name": THEORY})
-        self._theories -= 1
+        self._stand.pop()
 
     def report(self, at: int) -> Union[Goals, Made, Refusal, protocol.Error]:
         """The report on a command of the copy."""
@@ -93,13 +107,21 @@ class Asker:
         done, report = self._answer(until), self._answer(until)
         if not isinstance(done, protocol.Done):
             return done
-        self.count += 1
+        self._stand[-1][1].append(text)
         if not isinstance(report, (Goals, Made)):
             self.back(self.count - 1)
         return report
 
+    def attempt(self, text: str, until: float) -> Union[Goals, Made, Refusal, protocol.Error, None]:
+        """As `step`; None where it has no answer in time, or ends the program. A fresh server then has what stood before."""
+        try:
+            return self.step(text, until)
+        except Silent:
+            self._renew()
+            return None
+
     def back(self, count: int) -> None:
         """Takes steps out until so many commands stand."""
         while self.count > count:
-            self.count -= 1
+            self._stand[-1][1].pop()
             self.ask({"op": "remove", "theory": THEORY, "at": self.count})

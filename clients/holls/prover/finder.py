@@ -7,7 +7,7 @@ from typing import Callable, Dict, Iterator, List, NamedTuple, Optional, Sequenc
 
 from holls.manual import PRELUDE
 from holls.protocol import Goal, Goals
-from holls.prover import finding, reading, retyping, scope, scripts, tables, trying, typed
+from holls.prover import finding, named, reading, retyping, scope, scripts, tables, trying, typed
 from holls.prover.asking import Asker
 from holls.prover.finding import Item
 from holls.prover.reading import Unreadable
@@ -24,7 +24,15 @@ _WITHOUT = 0.35
 _SHORTER_SECONDS = 0.25
 """So long shorter steps are searched than those of a truth table."""
 _TRYING_SECONDS = 1.5
-"""So long, at least, steps that were found are made fewer."""
+"""So long, at least, steps that were found are made fewer, and so long at most named functions are put into them."""
+_USING_SECONDS = 0.5
+"""So long, at least, named functions are put into steps."""
+_CLOSING = 0.1
+"""The part of the time in which named functions are tried before a search."""
+
+
+_LEAVING_SECONDS = 0.3
+"""So long calls are left out that nothing needs."""
 
 
 class Unprovable(Exception):
@@ -47,6 +55,7 @@ class Finder:
         self.goals, self.goal = goals, goals.goals[0]
         self.quoter = Quoter(standing.signature)
         self.middle = standing.named(scripts.MIDDLE)
+        self.functions = named.Functions(standing.functions)
         self.refused = 0
         self.is_growing = False
         self.statement: Optional[Term] = None
@@ -55,26 +64,36 @@ class Finder:
         except (Unreadable, RecursionError):
             pass
 
-    def find(self, named: Optional[Sequence[str]]) -> Optional[List[str]]:
+    def find(self, theorems: Optional[Sequence[str]]) -> Optional[List[str]]:
         """The texts of `e` commands that close the goal; None where none were found in time, or terms are too deep for that."""
         try:
-            return self._find(named)
+            return self._find(theorems)
         except RecursionError:
             return None
 
-    def _find(self, named: Optional[Sequence[str]]) -> Optional[List[str]]:
-        for name in named or ():
+    def _find(self, theorems: Optional[Sequence[str]]) -> Optional[List[str]]:
+        for name in theorems or ():
             if name not in self.scope.theorems:
                 raise Unprovable("no theorem %s stands here, or its statement can't be read" % name)
         try:
             items = self._items(self.goal)
         except (Unreadable, RecursionError):
-            return self._quick(named or ())
+            return self._at_once(theorems or ())
         self.is_growing = any(trying.grows(item.term) for item in items)
-        return self._quick(()) or (self._by_named(items, list(named)) if named else self._by_any(items))
+        at_once = self._at_once(())
+        return self._by_named(items, list(theorems), at_once) if theorems else at_once or self._by_any(items)
 
-    def _by_named(self, items: List[Item], names: List[str]) -> Optional[List[str]]:
-        return self._quick(names) or self._search(items, names, self.until)
+    def _at_once(self, theorems: Sequence[str]) -> Optional[List[str]]:
+        """A step that needs no search: by rewriting, or by a named function on goals where that is shorter."""
+        found = self._quick(theorems)
+        below = sum(map(len, found)) - len("e ") if found else None
+        use = self.functions.closing(self.asker, self.goals, named.forms(self.is_growing), below, self._part(_CLOSING))
+        return self._fewer(["e " + use]) if use else found
+
+    def _by_named(self, items: List[Item], names: List[str], at_once: Optional[List[str]]) -> Optional[List[str]]:
+        """The shortest steps by theorems that are named, or those that need no search."""
+        found = self._quick(names) or self._search(items, names, self._part(_WITHOUT) if at_once else self.until)
+        return min([one for one in (found, at_once) if one], key=trying.length, default=None)
 
     def _by_any(self, items: List[Item]) -> Optional[List[str]]:
         """Steps of a proof by the goal alone, or by theorems like it."""
@@ -118,7 +137,7 @@ class Finder:
         fine = [name for name in theorems if not trying.grows(self.scope.theorems[name])]
         closers = trying.closers(fine, self.is_growing)
         found = trying.Trial(self.asker, closers, self._part(0.5)).close(len(self.goals.goals))
-        return ["e " + found] if found else None
+        return None if found is None else self._checked(self._used(Step(found))) or self._fewer(["e " + found])
 
     def _table(self, items: Sequence[Item]) -> object:
         """Steps by a truth table; False where the sequent has none, since it isn't valid; None where it isn't tried."""
@@ -177,25 +196,43 @@ class Finder:
         if done is None:
             self.refused += 1
             return None
-        for attempt in self._variants(done):
-            texts = scripts.commands(attempt)
-            if trying.check(self.asker, texts, count):
-                return texts
-        return None
+        return self._checked(self._used(done) + self._variants(done))
 
     def _run_table(self, step: Step) -> Optional[List[str]]:
-        """Runs the steps of a truth table as they are, as long as there is time."""
-        mark = self.asker.count
+        """Runs the steps of a truth table as they are, as long as there is time; where they take long, as they are to stand."""
+        mark, begun = self.asker.count, time.monotonic()
         done = trying.run_each(self.asker, step, len(self.goals.goals), self.until)
+        is_quick = time.monotonic() - begun < 0.5 * _LEAVING_SECONDS
         self.asker.back(mark)
-        return None if done is None else scripts.commands(done)
+        if done is None or not is_quick:
+            return None if done is None else scripts.commands(done)
+        return self._checked(self._used(done) + [done])
+
+    def _checked(self, attempts: Sequence[Step]) -> Optional[List[str]]:
+        """The commands of the first steps that close the goal, without calls that it doesn't need."""
+        for attempt in attempts:
+            texts = scripts.commands(attempt)
+            if trying.check(self.asker, texts, self.goals):
+                return self._fewer(texts)
+        return None
+
+    def _fewer(self, texts: List[str]) -> List[str]:
+        return trying.fewer(self.asker, texts, self.goals, time.monotonic() + _LEAVING_SECONDS)
+
+    def _used(self, step: Step) -> List[Step]:
+        """Shorter steps that do the same by named functions on goals."""
+        if not self.functions.names:
+            return []
+        now = time.monotonic()
+        until = min(now + _TRYING_SECONDS, max(self.until, now + _USING_SECONDS))
+        used = named.Uses(self.asker, self.functions, self.goals, until).shortened(step)
+        return [] if used is None else self._variants(used)
 
     def _variants(self, step: Step) -> List[Step]:
         """Steps that do the same, perhaps: the excluded middle isn't shown where nothing is written by it."""
         assumed = Scribe(self.quoter, None).assume(scripts.MIDDLE)
-        if step.text.startswith("SUBGOAL_THEN %s" % self.quoter.quote(scripts.MIDDLE)) and not _has(step.subs[1], assumed):
-            return [step.subs[1], step]
-        return [step]
+        is_shown = step.text.startswith("SUBGOAL_THEN %s" % self.quoter.quote(scripts.MIDDLE)) and len(step.subs) == 2
+        return [step.subs[1], step] if is_shown and not _has(step.subs[1], assumed) else [step]
 
 
 def _has(step: Step, text: str) -> bool:

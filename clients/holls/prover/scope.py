@@ -1,4 +1,4 @@
-"""What stands at a command, with types: constants, type constructors and theorems, by the texts that make them.
+"""What stands at a command, with types: constants, type constructors and theorems, and named functions on goals, by the texts that make them.
 
 A statement is read from the text of its `g` or `new_` command and not from what the program shows, which has no types. What can't be read, or
 was refused, is left out.
@@ -6,6 +6,7 @@ was refused, is left out.
 
 from __future__ import annotations
 
+import re
 from typing import Dict, FrozenSet, Iterator, List, Optional, Sequence, Set, Tuple
 
 from holls import manual, names
@@ -21,10 +22,12 @@ _LOGICAL = frozenset(name for name in reading.PRELUDE if name not in ("ONE_ONE",
 
 
 class Scope:
-    """The constants and the theorems that stand, the nearest last."""
+    """The constants, the theorems and the named functions on goals that stand, the nearest last."""
 
     def __init__(self) -> None:
         self.signature = Signature()
+        self.functions: Dict[str, FrozenSet[str]] = {}
+        """Of each named function on goals the variables that it names, free in its quotations."""
         self.theorems: Dict[str, Term] = {}
         self.definitions: Dict[str, str] = {"ONE_ONE": "ONE_ONE", "ONTO": "ONTO"}
         for name, text in manual.PRELUDE.items():
@@ -57,10 +60,27 @@ class Scope:
             self.definitions[given[0]] = constant[1]
         elif word == "new_constant":
             self.signature.constants[given[0]] = reading.type_text(quoted.strip().lstrip(":"), self.signature)
+        elif word == "deftac":
+            variables = self._named_variables(text)
+            self.functions.pop(given[0], None)
+            self.functions[given[0]] = variables
         elif word == "new_type":
             self.signature.constructors[given[0]] = int(given[1])
         elif word == "new_basic_type_definition":
             self._add_type(*given)
+
+    def _named_variables(self, text: str) -> FrozenSet[str]:
+        """The names of the variables that are free in a command's quotations, as far as these can be read, and in those of what it uses."""
+        found: Set[str] = set()
+        for at, part in enumerate(text.split("`")):
+            if at % 2 == 0:
+                found.update(*(self.functions.get(word, ()) for word in re.findall(r"[A-Za-z0-9_']+", part)))
+                continue
+            try:
+                found |= {one[1] for one in typed.variables(reading.term(part, self.signature))}
+            except (Unreadable, RecursionError):
+                continue
+        return frozenset(found)
 
     def _add_type(self, constructor: str, abstraction: str, representation: str, first: str, second: str, theorem: str) -> None:
         """Takes a defined type, its two constants and their theorems."""

@@ -16,19 +16,23 @@ _INTRODUCTION = re.compile(r"(X_GEN_TAC `[^`]*`|STRIP_TAC|DISCH_TAC|GEN_TAC)\Z")
 _SHORTER = (
     "GEN_TAC", "STRIP_TAC", "REPEAT GEN_TAC", "REPEAT STRIP_TAC", "REPEAT DISCH_TAC", "REPEAT GEN_TAC THEN DISCH_TAC",
     "REPEAT GEN_TAC THEN STRIP_TAC", "REPEAT GEN_TAC THEN REPEAT DISCH_TAC")
-_STRIPS = "REPEAT STRIP_TAC THEN "
+_PIECE = re.compile(r"`[^`]*`|[\[\]()]|(?<![A-Za-z0-9_'])(?:THEN|THENL|ORELSE)(?![A-Za-z0-9_'])")
+SHORT = "ASM_REWRITE_TAC []"
+"""Steps that are no longer aren't made fewer."""
+STRIPS = "REPEAT STRIP_TAC THEN "
+"""What a step that may close a goal begins with."""
 
 
 def closers(theorems: Sequence[str], is_growing: bool) -> List[str]:
     """Short steps that may close a goal, by rewriting with theorems; by assumptions only where these don't go on for ever."""
     if is_growing:
-        return [_STRIPS + "FIRST_ASSUM ACCEPT_TAC"]
+        return [STRIPS + "FIRST_ASSUM ACCEPT_TAC"]
     if not theorems:
-        return ["ASM_REWRITE_TAC []", _STRIPS + "ASM_REWRITE_TAC []", _STRIPS + "FIRST_ASSUM ACCEPT_TAC"]
+        return [SHORT, STRIPS + SHORT, STRIPS + "FIRST_ASSUM ACCEPT_TAC"]
     named = "[%s]" % "; ".join(theorems)
     alone = ["MATCH_MP_TAC %s THEN ASM_REWRITE_TAC []" % theorems[0]] if len(theorems) == 1 else []
     reduced = "REWRITE_TAC %s THEN BETA_TAC THEN REWRITE_TAC [ETA_AX]" % named
-    return ["REWRITE_TAC " + named, _STRIPS + "ASM_REWRITE_TAC " + named, reduced, _STRIPS + reduced] + alone
+    return ["REWRITE_TAC " + named, STRIPS + "ASM_REWRITE_TAC " + named, reduced, STRIPS + reduced] + alone
 
 
 def grows(term: Term) -> bool:
@@ -72,9 +76,9 @@ class Trial:
     def run(self, step: Step, open_goals: int) -> Optional[Step]:
         """Runs steps on the first goal. Answers those that were run in the end, or None where one is refused."""
         mark = self.asker.count
-        if _cost(step) > len("ASM_REWRITE_TAC []") and time.monotonic() < self.until:
+        if cost(step) > len(SHORT) and time.monotonic() < self.until:
             for text in self.closers:
-                if len(text) >= _cost(step):
+                if len(text) >= cost(step):
                     continue
                 found = goals_after(self.asker, text)
                 if found is not None and len(found.goals) == open_goals - 1:
@@ -119,8 +123,8 @@ def goals_after(asker: Asker, text: str) -> Optional[Goals]:
     return report if isinstance(report, Goals) else None
 
 
-def check(asker: Asker, texts: Sequence[str], open_goals: int) -> bool:
-    """Whether commands close the first goal; they are taken back."""
+def check(asker: Asker, texts: Sequence[str], goals: Goals) -> bool:
+    """Whether commands close the first of some goals, and leave the others as they are; they are taken back."""
     mark = asker.count
     found: Optional[Goals] = None
     for text in texts:
@@ -128,7 +132,29 @@ def check(asker: Asker, texts: Sequence[str], open_goals: int) -> bool:
         if found is None:
             break
     asker.back(mark)
-    return found is not None and len(found.goals) == open_goals - 1
+    return found is not None and found.goals == goals.goals[1:]
+
+
+def fewer(asker: Asker, texts: Sequence[str], goals: Goals, until: float) -> List[str]:
+    """Commands that close the first goal without the calls that they don't need: each is tried without, the last one first."""
+    mark = asker.count
+    made = [pieces(text[len("e "):]) for text in texts]
+    for text in texts[:-1]:
+        goals_after(asker, text[len("e "):])
+    longest = 0.0
+    for at in reversed(range(len(made))):
+        asker.back(mark + at)
+        for number in reversed(range(len(made[at]))):
+            rest, now = made[at][:number] + made[at][number + 1:], time.monotonic()
+            if now + longest < until and check(asker, _joined([rest] + made[at + 1:]), goals):
+                made[at] = rest
+            longest = max(longest, time.monotonic() - now)
+    return _joined(made)
+
+
+def _joined(calls: Sequence[Sequence[str]]) -> List[str]:
+    """Commands of calls that THEN joins; none where there is no call."""
+    return ["e " + " THEN ".join(one) for one in calls if one]
 
 
 def run_each(asker: Asker, step: Step, open_goals: int, until: float) -> Optional[Step]:
@@ -155,7 +181,8 @@ def _are_alike(one: Goals, other: Goals) -> bool:
     return (first.conclusion, set(first.assumptions), set(first.free)) == (second.conclusion, set(second.assumptions), set(second.free))
 
 
-def _cost(step: Step) -> int:
+def cost(step: Step) -> int:
+    """How long the commands of steps are, in characters."""
     return sum(len(text) for text in commands(step))
 
 
@@ -181,3 +208,17 @@ def _line(step: Step) -> Optional[str]:
 def length(texts: Sequence[str]) -> Tuple[int, int]:
     """How long commands are: in characters, and how many."""
     return sum(len(text) for text in texts), len(texts)
+
+
+def pieces(text: str) -> List[str]:
+    """The expressions that THEN joins in a text, outside of brackets; the text alone where another infix stands there."""
+    made, depth, begun = [], 0, 0
+    for found in _PIECE.finditer(text):
+        token = found.group()
+        depth += {"(": 1, "[": 1, ")": -1, "]": -1}.get(token, 0)
+        if depth == 0 and token in ("THENL", "ORELSE"):
+            return [text]
+        if depth == 0 and token == "THEN":
+            made.append(text[begun:found.start()].strip())
+            begun = found.end()
+    return made + [text[begun:].strip()]

@@ -18,7 +18,9 @@ fn assumed_first(alloc: Global, rules: &mut Rules, all: &Thm) -> Result<Thm, All
     ensures { IfOk result (λ th. th ≡ theorem_under (concl_of all.now) (lhs (concl_of all.now))) }
 {
     let own = assumed_conclusion(alloc, all)?;
-    rules.conjunct1(alloc, &own)
+    let made = rules.conjunct1(alloc, &own);
+    drop(own);
+    made
 }
 
 // `{p /\ q} |- q`, for the same.
@@ -28,7 +30,9 @@ fn assumed_second(alloc: Global, rules: &mut Rules, all: &Thm) -> Result<Thm, Al
     ensures { IfOk result (λ th. th ≡ theorem_under (concl_of all.now) (rhs (concl_of all.now))) }
 {
     let own = assumed_conclusion(alloc, all)?;
-    rules.conjunct2(alloc, &own)
+    let made = rules.conjunct2(alloc, &own);
+    drop(own);
+    made
 }
 
 // `p /\ q <=> p`, from `p` and `q` that assume `p` alone.
@@ -44,7 +48,10 @@ fn implied_on_the_right(
 {
     let back = rules.conj(alloc, p, q)?;
     let first = assumed_first(alloc, rules, &back)?;
-    equivalent(alloc, &back, &first)
+    let made = equivalent(alloc, &back, &first);
+    drop(first);
+    drop(back);
+    made
 }
 
 // `q /\ p <=> p`, from the same.
@@ -60,7 +67,10 @@ fn implied_on_the_left(
 {
     let back = rules.conj(alloc, q, p)?;
     let second = assumed_second(alloc, rules, &back)?;
-    equivalent(alloc, &back, &second)
+    let made = equivalent(alloc, &back, &second);
+    drop(second);
+    drop(back);
+    made
 }
 
 // `(p /\ q <=> p) /\ r`, from the same and `r`.
@@ -77,7 +87,9 @@ fn joined_on_the_right(
     ensures { IfOk result (λ th. th ≡ theorem_of (conjunction (equivalence (conjunction (concl_of p.now) (concl_of q.now)) (concl_of p.now)) (concl_of rest.now))) }
 {
     let first = implied_on_the_right(alloc, rules, p, q)?;
-    both(alloc, rules, &first, rest)
+    let made = both(alloc, rules, &first, rest);
+    drop(first);
+    made
 }
 
 // `(q /\ p <=> p) /\ r`, from the same.
@@ -94,7 +106,9 @@ fn joined_on_the_left(
     ensures { IfOk result (λ th. th ≡ theorem_of (conjunction (equivalence (conjunction (concl_of q.now) (concl_of p.now)) (concl_of p.now)) (concl_of rest.now))) }
 {
     let first = implied_on_the_left(alloc, rules, p, q)?;
-    both(alloc, rules, &first, rest)
+    let made = both(alloc, rules, &first, rest);
+    drop(first);
+    made
 }
 
 // `(p /\ q <=> p) /\ (q /\ p <=> p) /\ r`, from the same.
@@ -111,7 +125,9 @@ fn joined_on_both_sides(
     ensures { IfOk result (λ th. th ≡ theorem_of (conjunction (equivalence (conjunction (concl_of p.now) (concl_of q.now)) (concl_of p.now)) (conjunction (equivalence (conjunction (concl_of q.now) (concl_of p.now)) (concl_of p.now)) (concl_of rest.now)))) }
 {
     let tail = joined_on_the_left(alloc, rules, p, q, rest)?;
-    joined_on_the_right(alloc, rules, p, q, &tail)
+    let made = joined_on_the_right(alloc, rules, p, q, &tail);
+    drop(tail);
+    made
 }
 
 // `(T /\ p <=> p) /\ (p /\ T <=> p) /\ r`, from `{p} |- p` and `r`.
@@ -122,7 +138,10 @@ fn with_truth(alloc: Global, rules: &mut Rules, p: &Thm, rest: &Thm) -> Result<T
 {
     let holds = rules.truth()?;
     let tail = joined_on_the_right(alloc, rules, p, &holds, rest)?;
-    joined_on_the_left(alloc, rules, p, &holds, &tail)
+    let made = joined_on_the_left(alloc, rules, p, &holds, &tail);
+    drop(tail);
+    drop(holds);
+    made
 }
 
 // `(F /\ p <=> F) /\ (p /\ F <=> F) /\ r`, from a theorem that concludes `p`, and `r`.
@@ -133,7 +152,10 @@ fn with_falsity(alloc: Global, rules: &mut Rules, p: &Thm, rest: &Thm) -> Result
 {
     let own = assumed_falsity(alloc)?;
     let any = absurd(alloc, rules, p)?;
-    joined_on_both_sides(alloc, rules, &own, &any, rest)
+    let made = joined_on_both_sides(alloc, rules, &own, &any, rest);
+    drop(any);
+    drop(own);
+    made
 }
 
 /// The rewrites of `p` beside truth values and itself, from `{p} |- p`.
@@ -142,6 +164,10 @@ pub(crate) fn conj_rewrites(alloc: Global, rules: &mut Rules, p: &Thm) -> Result
     ensures { IfOk result (λ th. th ≡ theorem_of (conj_rewrites (concl_of p.now))) }
 {
     let same = implied_on_the_right(alloc, rules, p, p)?;
-    let rest = with_falsity(alloc, rules, p, &same)?;
-    with_truth(alloc, rules, p, &rest)
+    let made = with_falsity(alloc, rules, p, &same);
+    drop(same);
+    let rest = made?;
+    let made = with_truth(alloc, rules, p, &rest);
+    drop(rest);
+    made
 }

@@ -49,7 +49,9 @@ pub(crate) fn absurd(alloc: Global, rules: &mut Rules, a: &Thm) -> Result<Thm, A
 {
     a.well_typed();
     let own = assumed_falsity(alloc)?;
-    rules.contr(alloc, a.concl(), &own)
+    let made = rules.contr(alloc, a.concl(), &own);
+    drop(own);
+    made
 }
 
 /// `|- p <=> q`, from `p` that assumes `q` alone and `q` that assumes `p` alone.

@@ -27,7 +27,9 @@ fn from_either(
     ensures { IfOk result (λ th. th ≡ theorem_under (concl_of either.now) (concl_of first.now)) }
 {
     let all = assumed_conclusion(alloc, either)?;
-    rules.disj_cases(alloc, &all, first, second)
+    let made = rules.disj_cases(alloc, &all, first, second);
+    drop(all);
+    made
 }
 
 // `p \/ q <=> p`, from `p` that assumes `p` alone, `p` that assumes `q` alone, and a theorem that concludes `q`.
@@ -47,7 +49,10 @@ fn implying_on_the_right(
     q.well_typed();
     let back = rules.disj1(alloc, p, q.concl())?;
     let cases = from_either(alloc, rules, &back, p, implied)?;
-    equivalent(alloc, &back, &cases)
+    let made = equivalent(alloc, &back, &cases);
+    drop(cases);
+    drop(back);
+    made
 }
 
 // `q \/ p <=> p`, from the same.
@@ -67,7 +72,10 @@ fn implying_on_the_left(
     q.well_typed();
     let back = rules.disj2(alloc, q.concl(), p)?;
     let cases = from_either(alloc, rules, &back, implied, p)?;
-    equivalent(alloc, &back, &cases)
+    let made = equivalent(alloc, &back, &cases);
+    drop(cases);
+    drop(back);
+    made
 }
 
 // `(p \/ q <=> p) /\ r`, from the same and `r`.
@@ -87,7 +95,9 @@ fn joined_on_the_right(
     ensures { IfOk result (λ th. th ≡ theorem_of (conjunction (equivalence (disjunction (concl_of p.now) (concl_of q.now)) (concl_of p.now)) (concl_of rest.now))) }
 {
     let first = implying_on_the_right(alloc, rules, p, implied, q)?;
-    both(alloc, rules, &first, rest)
+    let made = both(alloc, rules, &first, rest);
+    drop(first);
+    made
 }
 
 // `(q \/ p <=> p) /\ r`, from the same.
@@ -107,7 +117,9 @@ fn joined_on_the_left(
     ensures { IfOk result (λ th. th ≡ theorem_of (conjunction (equivalence (disjunction (concl_of q.now) (concl_of p.now)) (concl_of p.now)) (concl_of rest.now))) }
 {
     let first = implying_on_the_left(alloc, rules, p, implied, q)?;
-    both(alloc, rules, &first, rest)
+    let made = both(alloc, rules, &first, rest);
+    drop(first);
+    made
 }
 
 // `(q \/ p <=> p) /\ (p \/ q <=> p) /\ r`, from the same.
@@ -127,7 +139,9 @@ fn joined_on_both_sides(
     ensures { IfOk result (λ th. th ≡ theorem_of (conjunction (equivalence (disjunction (concl_of q.now) (concl_of p.now)) (concl_of p.now)) (conjunction (equivalence (disjunction (concl_of p.now) (concl_of q.now)) (concl_of p.now)) (concl_of rest.now)))) }
 {
     let tail = joined_on_the_right(alloc, rules, p, implied, q, rest)?;
-    joined_on_the_left(alloc, rules, p, implied, q, &tail)
+    let made = joined_on_the_left(alloc, rules, p, implied, q, &tail);
+    drop(tail);
+    made
 }
 
 // `(T \/ p <=> T) /\ (p \/ T <=> T) /\ r`, from a theorem that concludes `p`, and `r`.
@@ -138,7 +152,10 @@ fn with_truth(alloc: Global, rules: &mut Rules, p: &Thm, rest: &Thm) -> Result<T
 {
     let holds = rules.truth()?;
     let tail = joined_on_the_left(alloc, rules, &holds, &holds, p, rest)?;
-    joined_on_the_right(alloc, rules, &holds, &holds, p, &tail)
+    let made = joined_on_the_right(alloc, rules, &holds, &holds, p, &tail);
+    drop(tail);
+    drop(holds);
+    made
 }
 
 // `(F \/ p <=> p) /\ (p \/ F <=> p) /\ r`, from `{p} |- p` and `r`.
@@ -149,7 +166,10 @@ fn with_falsity(alloc: Global, rules: &mut Rules, p: &Thm, rest: &Thm) -> Result
 {
     let own = assumed_falsity(alloc)?;
     let any = absurd(alloc, rules, p)?;
-    joined_on_both_sides(alloc, rules, p, &any, &own, rest)
+    let made = joined_on_both_sides(alloc, rules, p, &any, &own, rest);
+    drop(any);
+    drop(own);
+    made
 }
 
 /// The rewrites of `p` beside truth values and itself, from `{p} |- p`.
@@ -158,6 +178,10 @@ pub(crate) fn disj_rewrites(alloc: Global, rules: &mut Rules, p: &Thm) -> Result
     ensures { IfOk result (λ th. th ≡ theorem_of (disj_rewrites (concl_of p.now))) }
 {
     let same = implying_on_the_right(alloc, rules, p, p, p)?;
-    let rest = with_falsity(alloc, rules, p, &same)?;
-    with_truth(alloc, rules, p, &rest)
+    let made = with_falsity(alloc, rules, p, &same);
+    drop(same);
+    let rest = made?;
+    let made = with_truth(alloc, rules, p, &rest);
+    drop(rest);
+    made
 }

@@ -25,7 +25,9 @@ fn assumed_turned(alloc: Global, equal: &Thm) -> Result<Thm, AllocError>
     ensures { IfOk result (λ th. th ≡ theorem_under (concl_of equal.now) (equivalence (rhs (concl_of equal.now)) (lhs (concl_of equal.now)))) }
 {
     let own = assumed_conclusion(alloc, equal)?;
-    sym(alloc, &own)
+    let made = sym(alloc, &own);
+    drop(own);
+    made
 }
 
 // `(p <=> q) <=> (q <=> p)`, for the same.
@@ -36,7 +38,10 @@ fn turned(alloc: Global, equal: &Thm) -> Result<Thm, AllocError>
 {
     let back = assumed_turned(alloc, equal)?;
     let forward = assumed_turned(alloc, &back)?;
-    equivalent(alloc, &forward, &back)
+    let made = equivalent(alloc, &forward, &back);
+    drop(forward);
+    drop(back);
+    made
 }
 
 // `T <=> p`, from `p`.
@@ -45,7 +50,9 @@ fn truth_equal(alloc: Global, rules: &mut Rules, p: &Thm) -> Result<Thm, AllocEr
     ensures { IfOk result (λ th. th ≡ theorem_over no_items p.now.sequent.hyps (equivalence truth (concl_of p.now))) }
 {
     let same = rules.eqt_intro(alloc, p)?;
-    sym(alloc, &same)
+    let made = sym(alloc, &same);
+    drop(same);
+    made
 }
 
 // `{T <=> p} |- p`, for what the theorem concludes.
@@ -56,7 +63,10 @@ fn from_truth_equal(alloc: Global, rules: &Rules, equal: &Thm) -> Result<Thm, Al
 {
     let holds = rules.truth()?;
     let all = assumed_conclusion(alloc, equal)?;
-    eq_mp(alloc, &all, &holds)
+    let made = eq_mp(alloc, &all, &holds);
+    drop(all);
+    drop(holds);
+    made
 }
 
 // `(T <=> p) <=> p`, from `p` that assumes `p` alone.
@@ -66,7 +76,10 @@ fn truth_is(alloc: Global, rules: &mut Rules, p: &Thm) -> Result<Thm, AllocError
 {
     let back = truth_equal(alloc, rules, p)?;
     let own = from_truth_equal(alloc, rules, &back)?;
-    equivalent(alloc, &back, &own)
+    let made = equivalent(alloc, &back, &own);
+    drop(own);
+    drop(back);
+    made
 }
 
 // `(p <=> T) <=> p`, from a theorem that concludes `p`, and `(T <=> p) <=> p`.
@@ -76,8 +89,12 @@ fn is_truth(alloc: Global, rules: &mut Rules, p: &Thm, first: &Thm) -> Result<Th
     ensures { IfOk result (λ th. th ≡ theorem_of (equivalence (equivalence (concl_of p.now) truth) (concl_of p.now))) }
 {
     let same = rules.eqt_intro(alloc, p)?;
-    let back = turned(alloc, &same)?;
-    chained(alloc, &back, first)
+    let made = turned(alloc, &same);
+    drop(same);
+    let back = made?;
+    let made = chained(alloc, &back, first);
+    drop(back);
+    made
 }
 
 // `((p <=> T) <=> p) /\ r`, from the same and `r`.
@@ -94,7 +111,9 @@ fn is_truth_joined(
     ensures { IfOk result (λ th. th ≡ theorem_of (conjunction (equivalence (equivalence (concl_of p.now) truth) (concl_of p.now)) (concl_of rest.now))) }
 {
     let second = is_truth(alloc, rules, p, first)?;
-    both(alloc, rules, &second, rest)
+    let made = both(alloc, rules, &second, rest);
+    drop(second);
+    made
 }
 
 // `((T <=> p) <=> p) /\ ((p <=> T) <=> p) /\ r`, from `p` that assumes `p` alone, and `r`.
@@ -105,7 +124,10 @@ fn with_truth(alloc: Global, rules: &mut Rules, p: &Thm, rest: &Thm) -> Result<T
 {
     let first = truth_is(alloc, rules, p)?;
     let tail = is_truth_joined(alloc, rules, p, &first, rest)?;
-    both(alloc, rules, &first, &tail)
+    let made = both(alloc, rules, &first, &tail);
+    drop(tail);
+    drop(first);
+    made
 }
 
 // `{~p} |- p <=> F`, for what the theorem concludes.
@@ -116,7 +138,9 @@ fn false_if_denied(alloc: Global, rules: &mut Rules, p: &Thm) -> Result<Thm, All
     p.well_typed();
     let not = mk_neg(alloc, p.concl())?;
     let own = assumed(alloc, &not)?;
-    rules.eqf_intro(alloc, &own)
+    let made = rules.eqf_intro(alloc, &own);
+    drop(own);
+    made
 }
 
 // `F` that assumes `p <=> F` and what `p` assumes, from a theorem that concludes this equation, and `p`.
@@ -127,7 +151,9 @@ fn falsity_from(alloc: Global, equal: &Thm, p: &Thm) -> Result<Thm, AllocError>
     ensures { IfOk result (λ th. th ≡ theorem_over no_items (set.union (only_hyp (concl_of equal.now)) p.now.sequent.hyps) falsity) }
 {
     let all = assumed_conclusion(alloc, equal)?;
-    eq_mp(alloc, &all, p)
+    let made = eq_mp(alloc, &all, p);
+    drop(all);
+    made
 }
 
 // `~p` that assumes `p <=> F` and what `p` assumes but `p`, from the same.
@@ -144,8 +170,12 @@ fn denied_if_false(
 {
     p.well_typed();
     let none = falsity_from(alloc, equal, p)?;
-    let implies = rules.disch(alloc, p.concl(), &none)?;
-    denied(alloc, p, &implies)
+    let made = rules.disch(alloc, p.concl(), &none);
+    drop(none);
+    let implies = made?;
+    let made = denied(alloc, p, &implies);
+    drop(implies);
+    made
 }
 
 // `(p <=> F) <=> ~p`, from `p` that assumes `p` alone.
@@ -155,7 +185,10 @@ fn is_falsity(alloc: Global, rules: &mut Rules, p: &Thm) -> Result<Thm, AllocErr
 {
     let equal = false_if_denied(alloc, rules, p)?;
     let not = denied_if_false(alloc, rules, &equal, p)?;
-    equivalent(alloc, &equal, &not)
+    let made = equivalent(alloc, &equal, &not);
+    drop(not);
+    drop(equal);
+    made
 }
 
 // `(F <=> p) <=> (p <=> F)`, for what the theorem concludes.
@@ -164,8 +197,12 @@ fn falsity_turned(alloc: Global, rules: &mut Rules, p: &Thm) -> Result<Thm, Allo
     ensures { IfOk result (λ th. th ≡ theorem_of (equivalence (equivalence falsity (concl_of p.now)) (equivalence (concl_of p.now) falsity))) }
 {
     let equal = false_if_denied(alloc, rules, p)?;
-    let back = sym(alloc, &equal)?;
-    turned(alloc, &back)
+    let made = sym(alloc, &equal);
+    drop(equal);
+    let back = made?;
+    let made = turned(alloc, &back);
+    drop(back);
+    made
 }
 
 // `(F <=> p) <=> ~p`, from a theorem that concludes `p`, and `(p <=> F) <=> ~p`.
@@ -175,7 +212,9 @@ fn falsity_is(alloc: Global, rules: &mut Rules, p: &Thm, second: &Thm) -> Result
     ensures { IfOk result (λ th. th ≡ theorem_of (equivalence (equivalence falsity (concl_of p.now)) (negation (concl_of p.now)))) }
 {
     let first = falsity_turned(alloc, rules, p)?;
-    chained(alloc, &first, second)
+    let made = chained(alloc, &first, second);
+    drop(first);
+    made
 }
 
 // `((F <=> p) <=> ~p) /\ ((p <=> F) <=> ~p)`, from `p` that assumes `p` alone.
@@ -185,7 +224,10 @@ fn with_falsity(alloc: Global, rules: &mut Rules, p: &Thm) -> Result<Thm, AllocE
 {
     let right = is_falsity(alloc, rules, p)?;
     let left = falsity_is(alloc, rules, p, &right)?;
-    both(alloc, rules, &left, &right)
+    let made = both(alloc, rules, &left, &right);
+    drop(left);
+    drop(right);
+    made
 }
 
 /// The rewrites of `p` beside truth values, from `{p} |- p`.
@@ -194,5 +236,7 @@ pub(crate) fn eq_rewrites(alloc: Global, rules: &mut Rules, p: &Thm) -> Result<T
     ensures { IfOk result (λ th. th ≡ theorem_of (eq_rewrites (concl_of p.now))) }
 {
     let rest = with_falsity(alloc, rules, p)?;
-    with_truth(alloc, rules, p, &rest)
+    let made = with_truth(alloc, rules, p, &rest);
+    drop(rest);
+    made
 }

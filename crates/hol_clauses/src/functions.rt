@@ -46,7 +46,9 @@ fn at_function(alloc: Global, property: Postulate, f: &Variable) -> Result<Thm, 
     ensures { IfOk result (λ th. th ≡ theorem_on no_items (unfolded (free function) (postulate_of property))) }
 {
     let own = Thm::prelude(alloc, property)?;
-    unfold_at(alloc, &own, f)
+    let made = unfold_at(alloc, &own, f);
+    drop(own);
+    made
 }
 
 /// ONE_ONE: `!f. ONE_ONE f <=> (!x1 x2. f x1 = f x2 ==> x1 = x2)`.
@@ -55,7 +57,10 @@ pub fn one_one(alloc: Global, rules: &mut Rules) -> Result<Thm, AllocError>
 {
     let f = function(alloc)?;
     let own = at_function(alloc, Postulate::OneOne, &f)?;
-    rules.generalize(alloc, &f, &own)
+    let made = rules.generalize(alloc, &f, &own);
+    drop(own);
+    drop(f);
+    made
 }
 
 /// ONTO: `!f. ONTO f <=> (!y. ?x. y = f x)`.
@@ -64,5 +69,8 @@ pub fn onto(alloc: Global, rules: &mut Rules) -> Result<Thm, AllocError>
 {
     let f = function(alloc)?;
     let own = at_function(alloc, Postulate::Onto, &f)?;
-    rules.generalize(alloc, &f, &own)
+    let made = rules.generalize(alloc, &f, &own);
+    drop(own);
+    drop(f);
+    made
 }

@@ -21,7 +21,9 @@ pub(crate) fn always(alloc: Global, rules: &mut Rules, p: &Thm, q: &Thm) -> Resu
 {
     p.well_typed();
     let own = rules.disch(alloc, p.concl(), q)?;
-    holds(alloc, rules, &own)
+    let made = holds(alloc, rules, &own);
+    drop(own);
+    made
 }
 
 // `((p ==> q) <=> T) /\ r`, from the same and `r`.
@@ -38,7 +40,9 @@ fn always_joined(
     ensures { IfOk result (λ th. th ≡ theorem_of (conjunction (equivalence (implication (concl_of p.now) (concl_of q.now)) truth) (concl_of rest.now))) }
 {
     let first = always(alloc, rules, p, q)?;
-    both(alloc, rules, &first, rest)
+    let made = both(alloc, rules, &first, rest);
+    drop(first);
+    made
 }
 
 // `{T ==> p} |- p`, for what the first theorem concludes, and `T`.
@@ -54,7 +58,9 @@ fn from_truth_implies(
     ensures { IfOk result (λ th. th ≡ theorem_under (concl_of implies.now) (rhs (concl_of implies.now))) }
 {
     let all = assumed_conclusion(alloc, implies)?;
-    rules.mp(alloc, &all, holds)
+    let made = rules.mp(alloc, &all, holds);
+    drop(all);
+    made
 }
 
 /// `(T ==> p) <=> p`, from `T`, and `p` that assumes `p` alone.
@@ -70,7 +76,10 @@ pub(crate) fn truth_implies(
 {
     let back = rules.disch(alloc, holds.concl(), p)?;
     let own = from_truth_implies(alloc, rules, &back, holds)?;
-    equivalent(alloc, &back, &own)
+    let made = equivalent(alloc, &back, &own);
+    drop(own);
+    drop(back);
+    made
 }
 
 // `((T ==> p) <=> p) /\ r`, from the same and `r`.
@@ -87,7 +96,9 @@ fn truth_implies_joined(
     ensures { IfOk result (λ th. th ≡ theorem_of (conjunction (equivalence (implication truth (concl_of p.now)) (concl_of p.now)) (concl_of rest.now))) }
 {
     let first = truth_implies(alloc, rules, holds, p)?;
-    both(alloc, rules, &first, rest)
+    let made = both(alloc, rules, &first, rest);
+    drop(first);
+    made
 }
 
 // `(p ==> F) <=> ~p`, for what the theorem concludes.
@@ -96,7 +107,9 @@ fn implies_falsity(alloc: Global, p: &Thm) -> Result<Thm, AllocError>
     ensures { IfOk result (λ th. th ≡ theorem_of (equivalence (implication (concl_of p.now) falsity) (negation (concl_of p.now)))) }
 {
     let own = negation_unfolded(alloc, p)?;
-    sym(alloc, &own)
+    let made = sym(alloc, &own);
+    drop(own);
+    made
 }
 
 // `(T ==> p <=> p) /\ (p ==> T <=> T) /\ r`, from `{p} |- p` and `r`.
@@ -107,7 +120,10 @@ fn with_truth(alloc: Global, rules: &mut Rules, p: &Thm, rest: &Thm) -> Result<T
 {
     let holds = rules.truth()?;
     let tail = always_joined(alloc, rules, p, &holds, rest)?;
-    truth_implies_joined(alloc, rules, &holds, p, &tail)
+    let made = truth_implies_joined(alloc, rules, &holds, p, &tail);
+    drop(tail);
+    drop(holds);
+    made
 }
 
 // `(F ==> p <=> T) /\ r`, from a theorem that concludes `p`, and `r`.
@@ -118,7 +134,10 @@ fn with_falsity(alloc: Global, rules: &mut Rules, p: &Thm, rest: &Thm) -> Result
 {
     let own = assumed_falsity(alloc)?;
     let any = absurd(alloc, rules, p)?;
-    always_joined(alloc, rules, &own, &any, rest)
+    let made = always_joined(alloc, rules, &own, &any, rest);
+    drop(any);
+    drop(own);
+    made
 }
 
 // `(F ==> p <=> T) /\ (p ==> p <=> T) /\ r`, from `{p} |- p` and `r`.
@@ -128,7 +147,9 @@ fn with_itself(alloc: Global, rules: &mut Rules, p: &Thm, rest: &Thm) -> Result<
     ensures { IfOk result (λ th. th ≡ theorem_of (conjunction (equivalence (implication falsity (concl_of p.now)) truth) (conjunction (equivalence (implication (concl_of p.now) (concl_of p.now)) truth) (concl_of rest.now)))) }
 {
     let tail = always_joined(alloc, rules, p, p, rest)?;
-    with_falsity(alloc, rules, p, &tail)
+    let made = with_falsity(alloc, rules, p, &tail);
+    drop(tail);
+    made
 }
 
 /// The rewrites of `p` beside truth values and itself, from `{p} |- p`.
@@ -137,6 +158,10 @@ pub(crate) fn imp_rewrites(alloc: Global, rules: &mut Rules, p: &Thm) -> Result<
     ensures { IfOk result (λ th. th ≡ theorem_of (imp_rewrites (concl_of p.now))) }
 {
     let last = implies_falsity(alloc, p)?;
-    let rest = with_itself(alloc, rules, p, &last)?;
-    with_truth(alloc, rules, p, &rest)
+    let made = with_itself(alloc, rules, p, &last);
+    drop(last);
+    let rest = made?;
+    let made = with_truth(alloc, rules, p, &rest);
+    drop(rest);
+    made
 }

@@ -22,7 +22,9 @@ pub(crate) fn negation_unfolded(alloc: Global, p: &Thm) -> Result<Thm, AllocErro
     p.well_typed();
     let own = Thm::prelude(alloc, Postulate::NotDef)?;
     let ty = bool_type(alloc)?;
-    unfold(alloc, &own, &ty, &ty, p.concl())
+    let made = unfold(alloc, &own, &ty, &ty, p.concl());
+    drop(own);
+    made
 }
 
 /// `~p` from `p ==> F`, for what the first theorem concludes.
@@ -32,8 +34,12 @@ pub(crate) fn denied(alloc: Global, p: &Thm, implies: &Thm) -> Result<Thm, Alloc
     ensures { IfOk result (λ th. th ≡ theorem_over no_items implies.now.sequent.hyps (negation (concl_of p.now))) }
 {
     let own = negation_unfolded(alloc, p)?;
-    let back = sym(alloc, &own)?;
-    eq_mp(alloc, &back, implies)
+    let made = sym(alloc, &own);
+    drop(own);
+    let back = made?;
+    let made = eq_mp(alloc, &back, implies);
+    drop(back);
+    made
 }
 
 /// `~p <=> q`, from a theorem that concludes `p`, and `(p ==> F) <=> q`.
@@ -43,5 +49,7 @@ pub(crate) fn denial(alloc: Global, p: &Thm, implied: &Thm) -> Result<Thm, Alloc
     ensures { IfOk result (λ th. th ≡ theorem_of (equivalence (negation (concl_of p.now)) (rhs (concl_of implied.now)))) }
 {
     let unfolded = negation_unfolded(alloc, p)?;
-    chained(alloc, &unfolded, implied)
+    let made = chained(alloc, &unfolded, implied);
+    drop(unfolded);
+    made
 }

@@ -37,7 +37,9 @@ fn assumed_truth_value(alloc: Global) -> Result<Thm, AllocError>
     ensures { IfOk result (λ th. th ≡ theorem_under (free (boolean (codes "t"))) (free (boolean (codes "t")))) }
 {
     let v = truth_value(alloc)?;
-    let p = occurrence(alloc, &v)?;
+    let made = occurrence(alloc, &v);
+    drop(v);
+    let p = made?;
     assumed(alloc, &p)
 }
 
@@ -65,7 +67,9 @@ fn itself_holds(alloc: Global, rules: &mut Rules, v: &Variable) -> Result<Thm, A
     ensures { IfOk result (λ th. th ≡ theorem_of (equivalence (equation v.now.1 (free v.now) (free v.now)) truth)) }
 {
     let same = itself(alloc, v)?;
-    rules.eqt_intro(alloc, &same)
+    let made = rules.eqt_intro(alloc, &same);
+    drop(same);
+    made
 }
 
 /// REFL_CLAUSE: `!x:A. x = x <=> T`.
@@ -74,7 +78,10 @@ pub fn refl_clause(alloc: Global, rules: &mut Rules) -> Result<Thm, AllocError>
 {
     let x = any_element(alloc)?;
     let holds = itself_holds(alloc, rules, &x)?;
-    rules.generalize(alloc, &x, &holds)
+    let made = rules.generalize(alloc, &x, &holds);
+    drop(holds);
+    drop(x);
+    made
 }
 
 // `!t. p`, from `p`.
@@ -83,7 +90,9 @@ fn for_truth_values(alloc: Global, rules: &mut Rules, p: &Thm) -> Result<Thm, Al
     ensures { IfOk result (λ th. th ≡ theorem_on no_items (generalized (boolean (codes "t")) p.now.sequent)) }
 {
     let t = truth_value(alloc)?;
-    rules.generalize(alloc, &t, p)
+    let made = rules.generalize(alloc, &t, p);
+    drop(t);
+    made
 }
 
 /// EQ_CLAUSES: the rewrites of `<=>`.
@@ -91,8 +100,12 @@ pub fn eq_clauses(alloc: Global, rules: &mut Rules) -> Result<Thm, AllocError>
     ensures { IfOk result (λ th. th ≡ stated eq_clauses) }
 {
     let own = assumed_truth_value(alloc)?;
-    let all = eq_rewrites(alloc, rules, &own)?;
-    for_truth_values(alloc, rules, &all)
+    let made = eq_rewrites(alloc, rules, &own);
+    drop(own);
+    let all = made?;
+    let made = for_truth_values(alloc, rules, &all);
+    drop(all);
+    made
 }
 
 // `(T ==> F) <=> F`, from `T`.
@@ -101,7 +114,9 @@ fn truth_implies_falsity(alloc: Global, rules: &mut Rules, holds: &Thm) -> Resul
     ensures { IfOk result (λ th. th ≡ theorem_of (equivalence (implication truth falsity) falsity)) }
 {
     let own = assumed_falsity(alloc)?;
-    truth_implies(alloc, rules, holds, &own)
+    let made = truth_implies(alloc, rules, holds, &own);
+    drop(own);
+    made
 }
 
 // `~T <=> F`.
@@ -110,7 +125,10 @@ fn not_truth(alloc: Global, rules: &mut Rules) -> Result<Thm, AllocError>
 {
     let holds = rules.truth()?;
     let implied = truth_implies_falsity(alloc, rules, &holds)?;
-    denial(alloc, &holds, &implied)
+    let made = denial(alloc, &holds, &implied);
+    drop(implied);
+    drop(holds);
+    made
 }
 
 // `~F <=> T`.
@@ -119,7 +137,10 @@ fn not_falsity(alloc: Global, rules: &mut Rules) -> Result<Thm, AllocError>
 {
     let own = assumed_falsity(alloc)?;
     let implied = always(alloc, rules, &own, &own)?;
-    denial(alloc, &own, &implied)
+    let made = denial(alloc, &own, &implied);
+    drop(implied);
+    drop(own);
+    made
 }
 
 /// NOT_CLAUSES_WEAK: the rewrites of `~T` and `~F`.
@@ -128,7 +149,10 @@ pub fn not_clauses_weak(alloc: Global, rules: &mut Rules) -> Result<Thm, AllocEr
 {
     let first = not_truth(alloc, rules)?;
     let second = not_falsity(alloc, rules)?;
-    both(alloc, rules, &first, &second)
+    let made = both(alloc, rules, &first, &second);
+    drop(second);
+    drop(first);
+    made
 }
 
 /// AND_CLAUSES: the rewrites of `/\`.
@@ -136,8 +160,12 @@ pub fn and_clauses(alloc: Global, rules: &mut Rules) -> Result<Thm, AllocError>
     ensures { IfOk result (λ th. th ≡ stated and_clauses) }
 {
     let own = assumed_truth_value(alloc)?;
-    let all = conj_rewrites(alloc, rules, &own)?;
-    for_truth_values(alloc, rules, &all)
+    let made = conj_rewrites(alloc, rules, &own);
+    drop(own);
+    let all = made?;
+    let made = for_truth_values(alloc, rules, &all);
+    drop(all);
+    made
 }
 
 /// OR_CLAUSES: the rewrites of `\/`.
@@ -145,8 +173,12 @@ pub fn or_clauses(alloc: Global, rules: &mut Rules) -> Result<Thm, AllocError>
     ensures { IfOk result (λ th. th ≡ stated or_clauses) }
 {
     let own = assumed_truth_value(alloc)?;
-    let all = disj_rewrites(alloc, rules, &own)?;
-    for_truth_values(alloc, rules, &all)
+    let made = disj_rewrites(alloc, rules, &own);
+    drop(own);
+    let all = made?;
+    let made = for_truth_values(alloc, rules, &all);
+    drop(all);
+    made
 }
 
 /// IMP_CLAUSES: the rewrites of `==>`.
@@ -154,6 +186,10 @@ pub fn imp_clauses(alloc: Global, rules: &mut Rules) -> Result<Thm, AllocError>
     ensures { IfOk result (λ th. th ≡ stated imp_clauses) }
 {
     let own = assumed_truth_value(alloc)?;
-    let all = imp_rewrites(alloc, rules, &own)?;
-    for_truth_values(alloc, rules, &all)
+    let made = imp_rewrites(alloc, rules, &own);
+    drop(own);
+    let all = made?;
+    let made = for_truth_values(alloc, rules, &all);
+    drop(all);
+    made
 }

@@ -1,13 +1,10 @@
 -- Runs after runs.
-use Rattle.std.specs.Prelude.{◌≡◌, ℕ, List, [], ◌∷◌, ◌++◌, refl}
+use Rattle.std.specs.Prelude.{◌≡◌, List, [], ◌∷◌, ◌++◌, refl}
 use Rattle.std.proofs.Common.{ap, sym, ◌∙◌, append_assoc}
 use Rattle.std.proofs.lemmas.List.{append-nil}
 use Rattle.hol_goal.specs.Goal.{GoalValue}
 use Rattle.hol_goal.specs.Answer.{UsedValue}
 use Rattle.hol_combine.specs.Runs.{RunValue, Leaves, Refuses, Stops, before_goals, then_on, otherwise, each, unchanged}
-use Rattle.hol_combine.specs.RunView.{IsError}
-use Rattle.hol_combine.specs.declared.ran.RunError.{RunError}
-use Rattle.hol_combine.specs.declared.ran.RunError.TheVariants as error
 
 pub before_both : (a b : List GoalValue) (x : RunValue) → before_goals a (before_goals b x) ≡ before_goals (a ++ b) x
 before_both a b (Leaves c n) = λ i. Leaves (sym (append_assoc a b c) i) n
@@ -34,6 +31,11 @@ pub then_then : (x : RunValue) (f h : List GoalValue → UsedValue → RunValue)
 then_then (Leaves g l) f h = refl
 then_then (Refuses why l) f h = refl
 then_then (Stops why tested) f h = refl
+
+pub then_same_on : (x : RunValue) (f h : List GoalValue → UsedValue → RunValue) → ((g : List GoalValue) (l : UsedValue) → f g l ≡ h g l) → then_on x f ≡ then_on x h
+then_same_on (Leaves g l) f h e = e g l
+then_same_on (Refuses why l) f h e = refl
+then_same_on (Stops why tested) f h e = refl
 
 pub before_on : (new : List GoalValue) (h : UsedValue → RunValue) (a : RunValue) → before_goals new (then_on a (λ g l. before_goals g (h l))) ≡ then_on (before_goals new a) (λ g l. before_goals g (h l))
 before_on new h (Leaves g l) = before_both new g (h l)
@@ -64,17 +66,3 @@ module _ {X : Type 0} (f : X → UsedValue → RunValue) where
 pub each_unchanged : (goals : List GoalValue) (used : UsedValue) → each unchanged goals used ≡ Leaves goals used
 each_unchanged [] used = refl
 each_unchanged (g ∷ goals) used = ap (before_goals (g ∷ [])) (each_unchanged goals used)
-
--- ---- refusals and stops go through
-
-pub error_then : (x : RunValue) (next : List GoalValue → UsedValue → RunValue) (e : RunError) → IsError x e → IsError (then_on x next) e
-error_then x next (error.Refused why left tested) is = ap (λ a. then_on a next) is
-error_then x next (error.TurnLimit tested) is = ap (λ a. then_on a next) is
-error_then x next (error.LargeGoal tested) is = ap (λ a. then_on a next) is
-error_then x next error.Memory is = tt
-
-pub error_before : (goals : List GoalValue) (x : RunValue) (e : RunError) → IsError x e → IsError (before_goals goals x) e
-error_before goals x (error.Refused why left tested) is = ap (before_goals goals) is
-error_before goals x (error.TurnLimit tested) is = ap (before_goals goals) is
-error_before goals x (error.LargeGoal tested) is = ap (before_goals goals) is
-error_before goals x error.Memory is = tt

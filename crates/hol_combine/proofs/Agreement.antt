@@ -21,7 +21,7 @@ use Rattle.hol_just.specs.Strip.{avoiding, waiting, Stripped, Leaves as Ends, Ru
 use Rattle.hol_just.specs.Tac.{tac}
 use Rattle.hol_just.proofs.FreshLaws.{fresh_agrees}
 use Rattle.hol_just.proofs.StripFalls.{tested_in, strip_agrees}
-use Rattle.hol_combine.specs.ExprValue.{CallValue, TheoremTacValue, ExprValue, ExprValues, Call, Then, ThenL, OrElse, Try, Repeat, Every, First, Replicate, Changed, DischThen, PopAssum, FirstAssum, SubgoalThen, no_exprs, more_exprs}
+use Rattle.hol_combine.specs.ExprValue.{CallValue, TheoremTacValue, ExprValue, ExprValues, Call, Then, ThenL, OrElse, Try, Repeat, Every, First, Replicate, Changed, DischThen, PopAssum, FirstAssum, SubgoalThen, Defined, no_exprs, more_exprs}
 use Rattle.hol_combine.specs.Runs.{KnownValue, RunValue, Leaves, Refuses, LacksHyps, Stops, LargeGoal, before_goals, then_on, otherwise, each, unchanged, paying_from, paying, has_large, answer_of, run_meaning, meaning_at, call_paid, run_call, handed, hand, disch_then, pop_assum, first_assum, subgoal_then, is_just, changed, repeat, replicate, as_many, count, run, run_every, run_first, run_each}
 use Rattle.hol_combine.specs.Agreeing.{known, tested_of}
 use Rattle.hol_combine.proofs.Falling.{IsWithin, Falls, one_less, after_itself, within_before, within_then, within_otherwise, each_falls, repeat_falls}
@@ -307,6 +307,7 @@ module _ (names more : List (List ℕ)) where
       run_agrees (PopAssum called) goal used h = pop_agrees called goal.assumptions goal.conclusion used h
       run_agrees (FirstAssum called) goal used h = first_assum_agrees called goal.assumptions goal used h
       run_agrees (SubgoalThen p called) goal used h = subgoal_agrees called p goal used h
+      run_agrees (Defined t) goal used h = paying_agrees (run (known table names) t goal) (run (known table more) t goal) (λ l a. run_agrees t goal l a) used.tested used.turns_left h
 
       every_agrees : (ts : ExprValues) (goal : GoalValue) (used : UsedValue) → Agrees (run_every (known table names) ts goal used) → run_every (known table more) ts goal used ≡ run_every (known table names) ts goal used
       every_agrees no_exprs goal used h = refl

@@ -31,6 +31,12 @@ by_meaning known index args goal turns result h a = in_rows known.table index h 
     in_rows (row ∷ rows) zero h a = a
     in_rows (row ∷ rows) (suc i) h a = in_rows rows i (omega (arith, h)) a
 
+-- beyond the table there is none
+pub meaning_beyond : (names : List (List ℕ)) (rows : List (List ℕ × TacCode)) (index : ℕ) → length rows ≤ index → meaning_at names rows index ≡ None
+meaning_beyond names [] index h = refl
+meaning_beyond names (row ∷ rows) zero h = absurd (omega (arith, h))
+meaning_beyond names (row ∷ rows) (suc index) h = meaning_beyond names rows index (omega (arith, h))
+
 -- what may still be used, of an answer
 abbrev pub used_after : UsedValue → ℕ → List (List ℕ) → UsedValue
 used_after used left tested = record { turns_left = left; tested = used.tested ++ tested }

@@ -1,13 +1,13 @@
 -- Expressions in lists and chains.
-use Rattle.std.specs.Prelude.{◌≡◌, ◌≤◌, ◌<◌, ◌+◌, ℕ, zero, suc, Bool, true, List, [], ◌∷◌, length, refl}
+use Rattle.std.specs.Prelude.{◌≡◌, ◌≤◌, ◌<◌, ◌+◌, ℕ, zero, suc, Bool, true, List, [], ◌∷◌, ◌++◌, length, refl}
 use Rattle.std.specs.Cmp.Derive.{both_true}
 use Rattle.std.proofs.Common.{ap, sym, ◌∙◌, arith, get_or, drop, take, ◌-◌}
 use Rattle.std.proofs.lemmas.Bool.{and_parts}
 use Rattle.std.proofs.lemmas.List.{take_rest}
 use Rattle.hol_goal.specs.Goal.{GoalValue}
 use Rattle.hol_goal.specs.Answer.{UsedValue}
-use Rattle.hol_combine.specs.ExprValue.{CallValue, ExprValue, ExprValues, Call, Then, ThenL, OrElse, Try, Repeat, Every, First, Replicate, Changed, DischThen, PopAssum, FirstAssum, SubgoalThen, no_exprs, more_exprs, exprs, then_all, or_else_all, expr_nodes, exprs_nodes}
-use Rattle.hol_combine.specs.Runs.{KnownValue, RunValue, Leaves, Refuses, Stops, before_goals, then_on, each, run, run_every, run_first, run_each}
+use Rattle.hol_combine.specs.ExprValue.{CallValue, ExprValue, Then, no_exprs, more_exprs, exprs, then_all, or_else_all, used_through}
+use Rattle.hol_combine.specs.Runs.{KnownValue, RunValue, Leaves, Refuses, Stops, before_goals, then_on, each, run, run_every, run_first}
 use Rattle.hol_combine.specs.Suits.{all_calls, all_calls_of}
 use Rattle.hol_combine.specs.More.{run_more}
 use Rattle.hol_combine.proofs.After.{then_leaves, then_then, otherwise_same, each_unchanged}
@@ -28,6 +28,10 @@ module _ (test : CallValue → Bool) where
       let p = and_parts (all_calls test t) (all_calls test u) r.0 in
       (p.0, both_true p.1 r.1)
 
+  pub in_used : (n : ℕ) (t : ExprValue) → all_calls test (used_through n t) ≡ true → all_calls test t ≡ true
+  in_used zero t h = h
+  in_used (suc n) t h = in_used n t h
+
   pub in_or_else : (t : ExprValue) (us : List ExprValue) → all_calls test (or_else_all t us) ≡ true → (all_calls test t ≡ true) × (all_calls_of test (exprs us) ≡ true)
   in_or_else t [] h = (h, refl)
   in_or_else t (u ∷ us) h =
@@ -35,47 +39,14 @@ module _ (test : CallValue → Bool) where
       let r = in_or_else u us p.1 in
       (p.0, both_true r.0 r.1)
 
-  pub to_or_else : (t : ExprValue) (us : List ExprValue) → all_calls_of test (exprs (t ∷ us)) ≡ true → all_calls test (or_else_all t us) ≡ true
-  to_or_else t [] h = one_of t h
-  to_or_else t (u ∷ us) h =
-      let p = and_parts (all_calls test t) (all_calls_of test (exprs (u ∷ us))) h in
-      both_true p.0 (to_or_else u us p.1)
-
-  pub in_list : (ts : List ExprValue) (i : ℕ) (d : ExprValue) → i < length ts → all_calls_of test (exprs ts) ≡ true → all_calls test (get_or ts i d) ≡ true
-  in_list [] i d h a = absurd (omega (arith, h))
-  in_list (t ∷ ts) zero d h a = (and_parts (all_calls test t) (all_calls_of test (exprs ts)) a).0
-  in_list (t ∷ ts) (suc i) d h a = in_list ts i d (omega (arith, h)) (and_parts (all_calls test t) (all_calls_of test (exprs ts)) a).1
-
--- ---- numbers of nodes
-
-pub has_nodes : (t : ExprValue) → 1 ≤ expr_nodes t
-has_nodes (Call c) = omega arith
-has_nodes (Then t u) = omega arith
-has_nodes (ThenL t us) = omega arith
-has_nodes (OrElse t u) = omega arith
-has_nodes (Try t) = omega arith
-has_nodes (Repeat t) = omega arith
-has_nodes (Every ts) = omega arith
-has_nodes (First ts) = omega arith
-has_nodes (Replicate n t) = omega arith
-has_nodes (Changed t) = omega arith
-has_nodes (DischThen called) = omega arith
-has_nodes (PopAssum called) = omega arith
-has_nodes (FirstAssum called) = omega arith
-has_nodes (SubgoalThen p called) = omega arith
-
-pub nodes_at : (ts : List ExprValue) (i : ℕ) (d : ExprValue) → i < length ts → expr_nodes (get_or ts i d) ≤ exprs_nodes (exprs ts)
-nodes_at [] i d h = absurd (omega (arith, h))
-nodes_at (t ∷ ts) zero d h = omega arith
-nodes_at (t ∷ ts) (suc i) d h = let l : i < length ts = omega (arith, h) in omega (arith, nodes_at ts i d l)
-
-pub nodes_in_then : (t : ExprValue) (us : List ExprValue) → expr_nodes t + exprs_nodes (exprs us) ≤ expr_nodes (then_all t us)
-nodes_in_then t [] = omega arith
-nodes_in_then t (u ∷ us) = omega (arith, nodes_in_then (Then t u) us)
-
-pub nodes_in_or_else : (t : ExprValue) (us : List ExprValue) → expr_nodes t + exprs_nodes (exprs us) ≤ expr_nodes (or_else_all t us)
-nodes_in_or_else t [] = omega arith
-nodes_in_or_else t (u ∷ us) = omega (arith, nodes_in_or_else u us)
+-- lists of two parts
+module _ (test : CallValue → Bool) where
+  pub in_both : (ts us : List ExprValue) → all_calls_of test (exprs (ts ++ us)) ≡ true → (all_calls_of test (exprs ts) ≡ true) × (all_calls_of test (exprs us) ≡ true)
+  in_both [] us h = (refl, h)
+  in_both (t ∷ ts) us h =
+      let p = and_parts (all_calls test t) (all_calls_of test (exprs (ts ++ us))) h in
+      let r = in_both ts us p.1 in
+      (both_true p.0 r.0, r.1)
 
 -- ---- runs
 
@@ -118,31 +89,12 @@ drop_item (x ∷ ts) (suc i) t h e = drop_item ts i t (omega (arith, h)) e ∙ a
     more : (i : ℕ) → suc (i + 1) ≡ suc i + 1
     more i = omega arith
 
-pub item_passes : (test : CallValue → Bool) (ts : List ExprValue) (i : ℕ) (t : ExprValue) → i < length ts → t ≡ get_or ts i t → all_calls_of test (exprs ts) ≡ true → all_calls test t ≡ true
-item_passes test ts i t h e a = ap (all_calls test) e ∙ in_list test ts i t h a
-
-pub item_nodes : (ts : List ExprValue) (i : ℕ) (t : ExprValue) → i < length ts → t ≡ get_or ts i t → expr_nodes t ≤ exprs_nodes (exprs ts)
-item_nodes ts i t h e = omega (arith, ap expr_nodes e, nodes_at ts i t h)
-
 pub dropped_all : (ts : List ExprValue) (i : ℕ) → length ts ≤ i → exprs (drop i ts) ≡ no_exprs
 dropped_all [] zero h = refl
 dropped_all [] (suc i) h = refl
 dropped_all (x ∷ ts) zero h = absurd (omega (arith, h))
 dropped_all (x ∷ ts) (suc i) h = dropped_all ts i (omega (arith, h))
 
-pub nothing_left : (known : KnownValue) (ts : ExprValues) (l : UsedValue) → run_each known ts [] l ≡ Leaves [] l
-nothing_left known no_exprs l = refl
-nothing_left known (more_exprs t ts) l = refl
-
-pub no_goals : (goals : List GoalValue) → length goals ≡ 0 → goals ≡ []
-no_goals [] h = refl
-no_goals (g ∷ goals) h = absurd (omega (arith, h))
-
 pub split : (ts : List ExprValue) (t : ExprValue) → 1 ≤ length ts → t ≡ get_or ts 0 t → ts ≡ t ∷ take (length ts - 1) (drop 1 ts)
 split [] t h e = absurd (omega (arith, h))
 split (x ∷ ts) t h e = λ i. sym e i ∷ sym (take_rest (x ∷ ts) 1) i
-
-pub only_one : (ts : List ExprValue) (t : ExprValue) → 1 ≤ length ts → length ts < 2 → t ≡ get_or ts 0 t → ts ≡ t ∷ []
-only_one [] t h k e = absurd (omega (arith, h))
-only_one (x ∷ []) t h k e = λ i. sym e i ∷ []
-only_one (x ∷ y ∷ ts) t h k e = absurd (omega (arith, k))

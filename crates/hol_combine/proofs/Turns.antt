@@ -17,7 +17,7 @@ use Rattle.hol_just.specs.Tac.{Meaning, tac}
 use Rattle.hol_just.specs.Answering.{are_assumed}
 use Rattle.hol_just.proofs.StripFalls.{strip_assume_falls, strip_tac_falls}
 use Rattle.hol_just.proofs.Converting.{beta_falls, rewrite_falls, once_falls}
-use Rattle.hol_combine.specs.ExprValue.{CallValue, TheoremTacValue, ExprValue, ExprValues, Call, Then, ThenL, OrElse, Try, Repeat, Every, First, Replicate, Changed, DischThen, PopAssum, FirstAssum, SubgoalThen, no_exprs, more_exprs}
+use Rattle.hol_combine.specs.ExprValue.{CallValue, TheoremTacValue, ExprValue, ExprValues, Call, Then, ThenL, OrElse, Try, Repeat, Every, First, Replicate, Changed, DischThen, PopAssum, FirstAssum, SubgoalThen, Defined, no_exprs, more_exprs}
 use Rattle.hol_combine.specs.Runs.{KnownValue, RunValue, Leaves, Refuses, LacksHyps, Stops, LargeGoal, before_goals, then_on, each, unchanged, has_large, answer_of, run_meaning, meaning_at, call_paid, run_call, handed, hand, disch_then, pop_assum, first_assum, subgoal_then, is_just, changed, replicate, as_many, count, run, run_every, run_first, run_each}
 use Rattle.hol_combine.proofs.Falling.{IsAfter, after_itself, IsWithin, Falls, within_before, within_then, within_otherwise, within_paying, each_falls, repeated_falls}
 
@@ -148,6 +148,7 @@ mutual
   run_falls known (PopAssum called) goal used = pop_falls known called goal.assumptions goal.conclusion used
   run_falls known (FirstAssum called) goal used = first_assum_falls known called goal.assumptions goal used
   run_falls known (SubgoalThen p called) goal used = subgoal_falls known called p goal used
+  run_falls known (Defined t) goal used = within_paying (run known t goal) used (λ l. run_falls known t goal l)
 
   pub every_falls : (known : KnownValue) (ts : ExprValues) (goal : GoalValue) (used : UsedValue) → IsWithin used (run_every known ts goal used)
   every_falls known no_exprs goal used = after_itself used

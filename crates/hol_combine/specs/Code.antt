@@ -7,7 +7,7 @@ use Rattle.hol_terms.specs.Nameless.{Nameless}
 use Rattle.hol_terms.specs.Code.{coded_nameless}
 use Rattle.hol_kernel.specs.Given.{Given, given_code}
 use Rattle.hol_goal.specs.Arguments.{TacArgsValue, Nothing, Term, Pair, Theorem, TermAndTheorem, Theorems}
-use Rattle.hol_combine.specs.ExprValue.{CallValue, TheoremTacValue, ExprValue, ExprValues, Call, Then, ThenL, OrElse, Try, Repeat, Every, First, Replicate, Changed, DischThen, PopAssum, FirstAssum, SubgoalThen, no_exprs, more_exprs}
+use Rattle.hol_combine.specs.ExprValue.{CallValue, TheoremTacValue, ExprValue, ExprValues, Call, Then, ThenL, OrElse, Try, Repeat, Every, First, Replicate, Changed, DischThen, PopAssum, FirstAssum, SubgoalThen, Defined, no_exprs, more_exprs}
 
 abbrev number_in : Gv → ℕ
 number_in gnil = 0
@@ -72,6 +72,7 @@ abbrev mutual
   expr_code (PopAssum called) = gcons (gnum 11) (coded_theorem_tac.code called)
   expr_code (FirstAssum called) = gcons (gnum 12) (coded_theorem_tac.code called)
   expr_code (SubgoalThen p called) = gcons (gnum 13) (gcons (coded_nameless.code p) (coded_theorem_tac.code called))
+  expr_code (Defined t) = gcons (gnum 14) (expr_code t)
 
   pub exprs_code : ExprValues → Gv
   exprs_code no_exprs = gcons (gnum 0) gnil
@@ -107,6 +108,8 @@ mutual
   expr_inj (FirstAssum called) _ p = absurd (apart _ _ p (omega arith))
   expr_inj (SubgoalThen q called) (SubgoalThen q_ called_) p = λ i. SubgoalThen (coded_nameless.inj q q_ (ap (λ g. head (tail g)) p) i) (coded_theorem_tac.inj called called_ (ap (λ g. tail (tail g)) p) i)
   expr_inj (SubgoalThen q called) _ p = absurd (apart _ _ p (omega arith))
+  expr_inj (Defined t) (Defined t_) p = λ i. Defined (expr_inj t t_ (ap (λ g. tail g) p) i)
+  expr_inj (Defined t) _ p = absurd (apart _ _ p (omega arith))
 
   pub exprs_inj : (x y : ExprValues) → exprs_code x ≡ exprs_code y → x ≡ y
   exprs_inj no_exprs no_exprs p = refl

@@ -1,5 +1,5 @@
 -- Expressions of functions on goals whose names are resolved (HOL Light Reference Manual: the tacticals of these names).
-use Rattle.std.specs.Prelude.{ℕ, ◌+◌, List, [], ◌∷◌, Option}
+use Rattle.std.specs.Prelude.{ℕ, zero, suc, ◌+◌, List, [], ◌∷◌, Option}
 use Rattle.hol_terms.specs.Nameless.{Nameless}
 use Rattle.hol_goal.specs.Arguments.{TacArgsValue}
 
@@ -16,7 +16,8 @@ pub record TheoremTacValue : Type 0 where
   pub term : Option Nameless
 
 mutual
-  -- a call, or a tactical applied to what it takes
+  -- a call, or a tactical applied to what it takes; or a use of an expression that was named, as by a `let` of OCaml: it stands for its value, so the
+  -- name is no part of it
   pub data ExprValue : Type 0 where
     Call : CallValue → ExprValue
     Then : ExprValue → ExprValue → ExprValue
@@ -32,6 +33,7 @@ mutual
     PopAssum : TheoremTacValue → ExprValue
     FirstAssum : TheoremTacValue → ExprValue
     SubgoalThen : Nameless → TheoremTacValue → ExprValue
+    Defined : ExprValue → ExprValue
 
   pub data ExprValues : Type 0 where
     no_exprs : ExprValues
@@ -52,6 +54,11 @@ abbrev pub or_else_all : ExprValue → List ExprValue → ExprValue
 or_else_all t [] = t
 or_else_all t (u ∷ us) = OrElse t (or_else_all u us)
 
+-- so many uses, each of what was named by the next: `let t1 = t;; let t2 = t1;; ..`
+abbrev pub used_through : ℕ → ExprValue → ExprValue
+used_through zero t = t
+used_through (suc n) t = Defined (used_through n t)
+
 -- the number of nodes
 abbrev mutual
   pub expr_nodes : ExprValue → ℕ
@@ -69,6 +76,7 @@ abbrev mutual
   expr_nodes (PopAssum tac) = 1
   expr_nodes (FirstAssum tac) = 1
   expr_nodes (SubgoalThen p tac) = 1
+  expr_nodes (Defined t) = 1 + expr_nodes t
 
   pub exprs_nodes : ExprValues → ℕ
   exprs_nodes no_exprs = 0

@@ -1,5 +1,5 @@
 -- The expression that a node stands for: what contracts see of it.
-use Rattle.std.specs.Prelude.{[], string_bytes}
+use Rattle.std.specs.Prelude.{suc, [], string_bytes}
 use Rattle.std.specs.Option.{option_map}
 use Rattle.hol_terms.specs.Nameless.{nameless}
 use Rattle.hol_goal.specs.ArgumentsView.{args_value}
@@ -9,7 +9,7 @@ use Rattle.hol_combine.specs.declared.expr.Handing.{Handing}
 use Rattle.hol_combine.specs.declared.expr.Handing.TheVariants as handing
 use Rattle.hol_combine.specs.declared.expr.ExprNode.{ExprNode}
 use Rattle.hol_combine.specs.declared.expr.ExprNode.TheVariants as node
-use Rattle.hol_combine.specs.ExprValue.{CallValue, TheoremTacValue, ExprValue, Call, Then, ThenL, OrElse, Try, Repeat, Every, First, Replicate, Changed, DischThen, PopAssum, FirstAssum, SubgoalThen, exprs, then_all, or_else_all}
+use Rattle.hol_combine.specs.ExprValue.{CallValue, TheoremTacValue, ExprValue, Call, Then, ThenL, OrElse, Try, Repeat, Every, First, Replicate, Changed, DischThen, PopAssum, FirstAssum, SubgoalThen, exprs, then_all, or_else_all, used_through}
 
 abbrev pub call_value : TacCall → CallValue
 call_value call = record { index = call.index; name = string_bytes call.name; args = args_value call.args }
@@ -35,3 +35,4 @@ expr_of_node (node.First ts) = First (exprs ts.items)
 expr_of_node (node.Replicate n t) = Replicate n t
 expr_of_node (node.Changed t) = Changed t
 expr_of_node (node.Hand how called) = expr_of_handing how (theorem_tac_value called)
+expr_of_node (node.Defined more t) = used_through (suc more) t

@@ -1,6 +1,8 @@
 pub mod ExprValue
 pub mod Code
 pub mod ExprView
+pub mod ExprSize
+pub mod Chains
 pub mod Falls
 pub mod Runs
 pub mod Agreeing
@@ -10,3 +12,6 @@ pub mod More
 pub mod Going
 pub mod Work
 pub mod Called
+pub mod Pending
+pub mod Steps
+pub mod Advancing

@@ -1,5 +1,5 @@
 -- What a run of an expression on a goal comes to (HOL Light Reference Manual: the tacticals of these names; turns and sizes are this project's).
--- Each call and each round of REPEAT and REPLICATE_TAC pays a turn.
+-- Each call, each round of REPEAT and REPLICATE_TAC and each use of a named expression pays a turn.
 use Rattle.std.specs.Prelude.{ℕ, zero, suc, Bool, true, false, ◌&&◌, cond, codes, nat_eq, nat_lt, List, [], ◌∷◌, ◌++◌, length, Option, Some, None}
 use Rattle.std.specs.List.{list_any}
 use Rattle.hol_terms.specs.Nameless.{Nameless}
@@ -13,7 +13,7 @@ use Rattle.hol_just.specs.Tac.{Meaning, tac}
 use Rattle.hol_just.specs.Answering.{are_assumed}
 use Rattle.hol_just.specs.Leaving.{concluding}
 use Rattle.hol_just.specs.Strip.{antecedent}
-use Rattle.hol_combine.specs.ExprValue.{CallValue, TheoremTacValue, ExprValue, ExprValues, Call, Then, ThenL, OrElse, Try, Repeat, Every, First, Replicate, Changed, DischThen, PopAssum, FirstAssum, SubgoalThen, no_exprs, more_exprs}
+use Rattle.hol_combine.specs.ExprValue.{CallValue, TheoremTacValue, ExprValue, ExprValues, Call, Then, ThenL, OrElse, Try, Repeat, Every, First, Replicate, Changed, DischThen, PopAssum, FirstAssum, SubgoalThen, Defined, no_exprs, more_exprs}
 
 -- why a run is refused: what has this name doesn't fit, or a hypothesis of a theorem given to it is no assumption
 pub data RefusalValue : Type 0 where
@@ -208,6 +208,7 @@ abbrev mutual
   run known (PopAssum called) goal used = pop_assum known called goal.assumptions goal.conclusion used
   run known (FirstAssum called) goal used = first_assum known called goal.assumptions goal used
   run known (SubgoalThen p called) goal used = subgoal_then known p called goal used
+  run known (Defined t) goal used = paying (run known t goal) used
 
   -- each after those before it
   pub run_every : KnownValue → ExprValues → GoalValue → UsedValue → RunValue

@@ -5,7 +5,7 @@ use Rattle.hol_goal.specs.Arguments.{TacArgsValue, Nothing, Term, Theorem}
 use Rattle.hol_kernel.specs.Items.{Items}
 use Rattle.hol_kernel.specs.Given.{assumed as assume}
 use Rattle.hol_just.specs.Answering.{suits}
-use Rattle.hol_combine.specs.ExprValue.{CallValue, TheoremTacValue, ExprValue, ExprValues, Call, Then, ThenL, OrElse, Try, Repeat, Every, First, Replicate, Changed, DischThen, PopAssum, FirstAssum, SubgoalThen, no_exprs, more_exprs}
+use Rattle.hol_combine.specs.ExprValue.{CallValue, TheoremTacValue, ExprValue, ExprValues, Call, Then, ThenL, OrElse, Try, Repeat, Every, First, Replicate, Changed, DischThen, PopAssum, FirstAssum, SubgoalThen, Defined, no_exprs, more_exprs}
 
 -- what is written of a function of a theorem
 abbrev pub written_args : Option Nameless → TacArgsValue
@@ -36,6 +36,7 @@ abbrev mutual
   all_calls test (PopAssum called) = test (written called)
   all_calls test (FirstAssum called) = test (written called)
   all_calls test (SubgoalThen p called) = test (by_subgoal p called) && test (written called)
+  all_calls test (Defined t) = all_calls test t
 
   pub all_calls_of : (CallValue → Bool) → ExprValues → Bool
   all_calls_of test no_exprs = true

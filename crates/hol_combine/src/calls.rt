@@ -1,5 +1,5 @@
 //! Calls of registered functions on goals.
-ghost use Rattle.std.specs.Prelude.{◌≡◌, ◌≤◌, ◌<◌, ◌+◌, ◌++◌, IfOk, IfErr, length, true, [], ◌∷◌};
+ghost use Rattle.std.specs.Prelude.{◌≡◌, ◌≤◌, ◌+◌, ◌++◌, IfOk, IfErr, true, [], ◌∷◌};
 ghost use Rattle.hol_goal.specs.ArgumentsView.{args_value};
 ghost use Rattle.hol_just.specs.Answering.{suits, IsJustified};
 ghost use Rattle.hol_combine.specs.ExprView.{call_value};
@@ -27,7 +27,6 @@ pub(crate) fn run_call<T: Tacs>(
     tacs: &T,
     used: Used,
 ) -> Result<Ran, RunError>
-    requires index { call.now.index < length (T.Tacs.known_of tacs.now).table }
     requires turns { used.left ≤ 100000 }
     ensures answer { IsRun (run_call (T.Tacs.known_of tacs.now) (call_value call.now) goal.now (used_value used)) result }
     ensures valid { IfOk result (IsValidRun (suits (args_value call.now.args)) (goal.now ∷ [])) }
@@ -57,7 +56,23 @@ pub(crate) fn paid(used: Used) -> Result<Used, RunError>
     })
 }
 
-/// A call that has paid. Nothing is asked of its theorems' hypotheses.
+/// What may still be used where a turn is paid, and so many more. An error says that fewer are left.
+pub(crate) fn paid_too(used: Used, more: usize) -> Result<Used, RunError>
+    ensures paid { IfOk result (λ u. (used_value used).turns_left ≡ u.left + (more + 1)) }
+    ensures tested { IfOk result (λ u. u.tested.items ≡ used.tested.items) }
+    ensures few { IfErr result (λ e. (used.left ≤ more) × IsError (Stops TurnLimit used.tested.items) e) }
+{
+    let Used { left, tested } = used;
+    if left as usize <= more {
+        return Err(RunError::TurnLimit(tested));
+    }
+    Ok(Used {
+        left: left - 1 - more as u32,
+        tested,
+    })
+}
+
+/// A call that has paid: refused where the registry has no such index. Nothing is asked of its theorems' hypotheses.
 pub(crate) fn call_paid<T: Tacs>(
     alloc: Global,
     call: &TacCall,
@@ -65,7 +80,6 @@ pub(crate) fn call_paid<T: Tacs>(
     tacs: &T,
     used: Used,
 ) -> Result<Ran, RunError>
-    requires index { call.now.index < length (T.Tacs.known_of tacs.now).table }
     requires turns { used.left ≤ 100000 }
     ensures answer { IsRun (call_paid (T.Tacs.known_of tacs.now) (call_value call.now) goal.now (used_value used)) result }
     ensures valid { IfOk result (λ ran. IsJustified (args_value call.now.args) goal.now ran.step) }
@@ -75,6 +89,10 @@ pub(crate) fn call_paid<T: Tacs>(
         left: turns,
         tested,
     } = used;
+    if call.index >= tacs.count() {
+        let name = String::from_str(alloc, call.name.as_str())?;
+        return Err(RunError::Refused(Refusal::DoesNotFit(name), turns, tested));
+    }
     match tacs.call_at(call.index, &call.args, goal, turns) {
         Ok(tried) => small(tried, tested),
         Err(TacFault::Refused(left, more)) => {

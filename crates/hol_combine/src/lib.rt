@@ -3,14 +3,19 @@
 //! Calls that answer a `Result` answer its memory error where memory is short, and nowhere else.
 #![tactic(auto)]
 
+mod beginning;
 mod calls;
 mod expr;
 mod formula;
 mod handing;
 mod laws;
 mod parts;
+mod pending;
+mod pursuing;
 mod ran;
+mod resuming;
 mod running;
+mod sizes;
 mod tacs;
 mod theorem_tacs;
 mod work;

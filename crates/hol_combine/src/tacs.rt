@@ -1,5 +1,5 @@
 //! What calls registered functions on goals.
-ghost use Rattle.std.specs.Prelude.{◌≤◌, ◌<◌, length, IfOk};
+ghost use Rattle.std.specs.Prelude.{◌≡◌, ◌≤◌, ◌<◌, length, IfOk};
 ghost use Rattle.hol_goal.specs.ArgumentsView.{args_value};
 ghost use Rattle.hol_just.specs.Answering.{IsJustified};
 ghost use Rattle.hol_combine.specs.Called.{IsCalled};
@@ -9,15 +9,18 @@ use hol_goal::{Goal, Names, TacArgs};
 use hol_just::{TacFault, Tried};
 use hol_registry::Registry;
 
-/// What calls registered functions on goals: a registry, and the names of constants. The functions that call each other to run an expression take it by this trait.
+/// What calls registered functions on goals: a registry, and the names of constants. The functions that run an expression take it by this trait.
 pub(crate) trait Tacs {
-    ghost use Rattle.std.specs.Prelude.{◌≤◌, ◌<◌, length, IfOk};
+    ghost use Rattle.std.specs.Prelude.{◌≡◌, ◌≤◌, ◌<◌, length, IfOk};
     ghost use Rattle.hol_goal.specs.ArgumentsView.{args_value};
     ghost use Rattle.hol_just.specs.Answering.{IsJustified};
     ghost use Rattle.hol_combine.specs.Called.{IsCalled};
     ghost use Rattle.hol_combine.specs.Runs.{KnownValue};
 
     ghost known_of: { Self → KnownValue };
+
+    fn count(&self) -> usize
+        ensures { result ≡ length (known_of self.now).table };
 
     fn call_at(
         &self,
@@ -43,6 +46,10 @@ impl<'a> Tacs for Calls<'a> {
     ghost use Rattle.hol_registry.specs.RegistryView.{table};
 
     ghost known_of = { λ calls. record { table = table calls.registry.now; names = calls.names.now } };
+
+    fn count(&self) -> usize {
+        self.registry.count()
+    }
 
     fn call_at(
         &self,

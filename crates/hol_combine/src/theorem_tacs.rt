@@ -1,5 +1,5 @@
 //! Functions of a theorem, and the tacticals that hand them one.
-ghost use Rattle.std.specs.Prelude.{◌≡◌, ◌≤◌, ◌<◌, ◌∷◌, Some, [], IfOk, length};
+ghost use Rattle.std.specs.Prelude.{◌≡◌, ◌≤◌, ◌∷◌, Some, [], IfOk};
 ghost use Rattle.hol_terms.specs.Named.{named_type};
 ghost use Rattle.hol_terms.specs.Nameless.{nameless};
 ghost use Rattle.hol_formulas.specs.Equation.{bool_type};
@@ -41,7 +41,6 @@ pub(crate) fn run_handing<T: Tacs>(
     tacs: &T,
     used: Used,
 ) -> Result<Ran, RunError>
-    requires index { tac.now.index < length (T.Tacs.known_of tacs.now).table }
     requires turns { used.left ≤ 100000 }
     ensures answer { IsRun (run (T.Tacs.known_of tacs.now) (expr_of_handing how.now (theorem_tac_value tac.now)) goal.now (used_value used)) result }
     ensures valid { IfOk result (IsValidRun (suits_expr (expr_of_handing how.now (theorem_tac_value tac.now))) (goal.now ∷ [])) }
@@ -64,7 +63,6 @@ fn hand<T: Tacs>(
     tacs: &T,
     used: Used,
 ) -> Result<Ran, RunError>
-    requires index { tac.now.index < length (T.Tacs.known_of tacs.now).table }
     requires formula { named_type p.now ≡ Some bool_type }
     requires turns { used.left ≤ 100000 }
     ensures answer { IsRun (hand (T.Tacs.known_of tacs.now) (theorem_tac_value tac.now) (nameless [] p.now) goal.now (used_value used)) result }
@@ -84,7 +82,6 @@ fn disch_then<T: Tacs>(
     tacs: &T,
     used: Used,
 ) -> Result<Ran, RunError>
-    requires index { tac.now.index < length (T.Tacs.known_of tacs.now).table }
     requires turns { used.left ≤ 100000 }
     ensures answer { IsRun (disch_then (T.Tacs.known_of tacs.now) (theorem_tac_value tac.now) goal.now (antecedent goal.now.conclusion) (used_value used)) result }
     ensures valid { IfOk result (IsValidRun (suits_written (theorem_tac_value tac.now)) (goal.now ∷ [])) }
@@ -113,7 +110,6 @@ fn hand_after<T: Tacs>(
     tacs: &T,
     used: Used,
 ) -> Result<Ran, RunError>
-    requires index { tac.now.index < length (T.Tacs.known_of tacs.now).table }
     requires formula { named_type p.now ≡ Some bool_type }
     requires turns { used.left ≤ 100000 }
     ensures answer { IsRun (hand (T.Tacs.known_of tacs.now) (theorem_tac_value tac.now) (nameless [] p.now) goal.now (used_value used)) result }
@@ -132,7 +128,6 @@ fn pop_assum<T: Tacs>(
     tacs: &T,
     used: Used,
 ) -> Result<Ran, RunError>
-    requires index { tac.now.index < length (T.Tacs.known_of tacs.now).table }
     requires turns { used.left ≤ 100000 }
     ensures answer { IsRun (pop_assum (T.Tacs.known_of tacs.now) (theorem_tac_value tac.now) goal.now.assumptions goal.now.conclusion (used_value used)) result }
     ensures valid { IfOk result (IsValidRun (suits_written (theorem_tac_value tac.now)) (goal.now ∷ [])) }
@@ -153,7 +148,6 @@ fn first_assum<T: Tacs>(
     tacs: &T,
     used: Used,
 ) -> Result<Ran, RunError>
-    requires index { tac.now.index < length (T.Tacs.known_of tacs.now).table }
     requires turns { used.left ≤ 100000 }
     ensures answer { IsRun (first_assum (T.Tacs.known_of tacs.now) (theorem_tac_value tac.now) goal.now.assumptions goal.now (used_value used)) result }
     ensures valid { IfOk result (IsValidRun (suits_written (theorem_tac_value tac.now)) (goal.now ∷ [])) }
@@ -184,7 +178,6 @@ fn subgoal_then<T: Tacs>(
     tacs: &T,
     used: Used,
 ) -> Result<Ran, RunError>
-    requires index { tac.now.index < length (T.Tacs.known_of tacs.now).table }
     requires turns { used.left ≤ 100000 }
     ensures answer { IsRun (subgoal_then (T.Tacs.known_of tacs.now) p.now (theorem_tac_value tac.now) goal.now (used_value used)) result }
     ensures valid { IfOk result (IsValidRun (suits_expr (SubgoalThen p.now (theorem_tac_value tac.now))) (goal.now ∷ [])) }

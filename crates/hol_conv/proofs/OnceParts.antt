@@ -1,6 +1,6 @@
 -- What replacing each topmost redex comes to, by what it comes to in the parts.
 use Rattle.std.proofs.Common.{◌≡◌, ℕ, ◌+◌, List, [], ◌∷◌, min, refl, ap, sym, ◌∙◌, subst, Some, None}
-use Rattle.std.specs.Prelude.{Result, Err}
+use Rattle.std.specs.Prelude.{Result, Ok, Err, IfOk, IfErr}
 use Rattle.std.specs.Option.{option_map, option_or}
 use Rattle.hol_types.specs.Tree.{TypeTree, type_size}
 use Rattle.hol_types.specs.Fun.{fun_type}
@@ -33,6 +33,13 @@ stops : (e : ConvError) (go : Nameless → ℕ → Outcome) (p : Outcome) → Te
 stops Limit go p h = ap (and_then go) h
 stops TooLarge go p h = ap (and_then go) h
 stops Memory go p h = tt
+
+-- an end that is told of by its parts
+pub told_parts : (R : Result Ended ConvError) (o : Outcome) (u : Named) (n : ℕ) → IfErr R (λ e. e ≡ Memory) → IfOk R (λ r. r.term ≡ u) → IfOk R (λ r. r.left ≡ n) → o ≡ finished (nameless [] u) n → TellsEnd R o
+told_parts (Ok r) o u n e t l h = h ∙ (λ i. finished (nameless [] (sym t i)) (sym l i))
+told_parts (Err Limit) o u n e t l h = absurd (cc)
+told_parts (Err TooLarge) o u n e t l h = absurd (cc)
+told_parts (Err Memory) o u n e t l h = tt
 
 -- ---- types
 pub both_kept : (f x g y u : Named) → u ≡ comb g y → named_type g ≡ named_type f → named_type y ≡ named_type x → named_type u ≡ named_type (comb f x)

@@ -1,12 +1,13 @@
 -- Beta redexes as redexes of a turn, and terms that have no redex.
-use Rattle.std.proofs.Common.{◌≡◌, ℕ, List, [], ◌∷◌, refl, ap, ◌∙◌, false, Option, None}
+use Rattle.std.proofs.Common.{◌≡◌, ℕ, ◌+◌, List, [], ◌∷◌, refl, ap, ◌∙◌, true, false, Option, Some, None}
 use Rattle.std.specs.Option.{option_map, option_or}
 use Rattle.hol_types.specs.Tree.{TypeTree}
 use Rattle.hol_terms.specs.Named.{Named, comb}
 use Rattle.hol_terms.specs.Nameless.{Nameless, free, bound, fixed, app, lam, nameless}
 use Rattle.hol_conv.specs.Beta.{reduct, beta_turn}
 use Rattle.hol_match.specs.Contracta.{contractum, HasNoRedex}
-use Rattle.hol_match.specs.RuleSets.{RuleEntry, first_fit}
+use Rattle.hol_match.specs.Instance.{InstanceValue, instantiated}
+use Rattle.hol_match.specs.RuleSets.{RuleEntry, fit, or_later, first_fit}
 use Rattle.hol_match.specs.SetView.{set_rules}
 use Rattle.hol_match.specs.declared.set_rule.SetRule.{SetRule}
 use Rattle.hol_match.proofs.Contracta.{first_none}
@@ -45,7 +46,29 @@ no_beta_redex (lam a s b) h = refl
 pub no_rule_redex : (rules : List SetRule) (n : Nameless) → first_fit 0 (set_rules rules) n ≡ None → contractum [] (set_rules rules) n ≡ None
 no_rule_redex rules n h = first_none 0 (set_rules rules) n h
 
-pub ruleset no_redexes = (no_beta_redex, no_rule_redex)
+pub beta_redex : (n : Nameless) → is_applied_abstraction n ≡ true → beta_contractum n ≡ None → ⊥
+beta_redex (free v) h k = absurd (cc)
+beta_redex (bound i) h k = absurd (cc)
+beta_redex (fixed c s) h k = absurd (cc)
+beta_redex (app (free v) x) h k = absurd (cc)
+beta_redex (app (bound i) x) h k = absurd (cc)
+beta_redex (app (fixed c s) x) h k = absurd (cc)
+beta_redex (app (app f y) x) h k = absurd (cc)
+beta_redex (app (lam a s b) x) h k = absurd (cc)
+beta_redex (lam a s b) h k = absurd (cc)
+
+first_redex : (i : ℕ) (es : List RuleEntry) (t : Nameless) (f : ℕ × InstanceValue) → first_fit i es t ≡ Some f → contractum [] es t ≡ None → ⊥
+first_redex i [] t f h k = absurd (cc)
+first_redex i (e ∷ es) t f h k = by (fit e t) (first_redex (i + 1) es t f) h k
+  where
+    by : (o : Option InstanceValue) → (first_fit (i + 1) es t ≡ Some f → contractum [] es t ≡ None → ⊥) → or_later i o (first_fit (i + 1) es t) ≡ Some f → option_or (option_map (λ a. instantiated a 0 e.rule.right) o) (contractum [] es t) ≡ None → ⊥
+    by None r g q = r g q
+    by (Some a) r g q = absurd (cc)
+
+pub rule_redex : (rules : List SetRule) (n : Nameless) (f : ℕ × InstanceValue) → first_fit 0 (set_rules rules) n ≡ Some f → contractum [] (set_rules rules) n ≡ None → ⊥
+rule_redex rules n f h k = first_redex 0 (set_rules rules) n f h k
+
+pub ruleset no_redexes = (no_beta_redex, no_rule_redex, beta_redex, rule_redex)
 
 -- a turn by rules finds nothing where no rule matches any part
 no_turn_under : (rules : List RuleEntry) (env : List TypeTree) (n : Nameless) → HasNoRedex rules n → turn (λ env m. contractum env rules m) env n ≡ None

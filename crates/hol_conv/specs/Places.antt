@@ -80,6 +80,13 @@ pub record StepsIn (s : Step) (fs gs : List Frame) : Type 0 where
   pub how : frame.step ≡ s
   pub unseen : frame.is_passed_over ≡ false
 
+-- a frame with this step, for which this is known, comes within those that were there
+pub record ComesBack (s : Step) (over : Bool) (fs gs : List Frame) : Type 0 where
+  pub frame : Frame
+  pub pushed : gs ≡ fs ++ frame ∷ []
+  pub how : frame.step ≡ s
+  pub seen : frame.is_passed_over ≡ over
+
 -- what comes after the part t, which has no redex
 abbrev pub ComesAfter : Frame → Named → After → Type 0
 ComesAfter f t (Next k x) = (f.step ≡ Function x) × (k.step ≡ Argument t) × (k.is_passed_over ≡ f.is_passed_over)

@@ -1,12 +1,13 @@
 //! Each topmost redex replaced once.
-ghost use Rattle.std.specs.Prelude.{◌≡◌, ◌+◌, ◌≤◌, [], min, IfOk};
+ghost use Rattle.std.specs.Prelude.{◌≡◌, ◌+◌, ◌≤◌, [], min, IfOk, IfErr, None};
 ghost use Rattle.hol_terms.specs.Named.{comb, abs, named_type};
 ghost use Rattle.hol_terms.specs.Nameless.{nameless};
 ghost use Rattle.hol_conv.specs.Redexes.{contraction};
 ghost use Rattle.hol_conv.specs.Beside.{paid_beside, once_beside, inner_once};
 ghost use Rattle.hol_conv.specs.Ends.{TellsEnd};
-ghost use Rattle.hol_conv.specs.Tracing.{Traces, redex_givens};
+ghost use Rattle.hol_conv.specs.Tracing.{Traces, IsParts, IsBody, redex_givens};
 ghost use Rattle.hol_conv.specs.declared.trace_node.TraceNode.TheVariants.{Same};
+ghost use Rattle.hol_conv.specs.declared.error.ConvError.TheVariants.{Memory};
 
 use crate::ended::Ended;
 use crate::error::ConvError;
@@ -35,30 +36,54 @@ pub(crate) fn once_beside(
     ensures traces { IfOk result (λ r. Traces (redex_givens redexes.now) r.node.value (nameless [] t.now) (nameless [] r.term)) }
 {
     if !redexes.may_have_redex(t) {
-        return Ok(kept(alloc, t, left)?);
+        return kept(alloc, t, left);
     }
-    if let Some(redex) = redexes.contract(alloc, t)? {
-        return paid_beside(redex, outside, left);
+    if redexes.is_redex(alloc, t)? {
+        return at_redex(alloc, redexes, t, outside, left);
     }
     let _ty = t.type_of();
     match t.node() {
         TermNode::Comb(f, x) => once_in_parts(alloc, redexes, f, x, outside, left),
         TermNode::Abs(v, b) => once_in_body(alloc, redexes, v, b, outside, left),
-        TermNode::Var(_) | TermNode::Const(_, _) => Ok(kept(alloc, t, left)?),
+        TermNode::Var(_) | TermNode::Const(_, _) => kept(alloc, t, left),
     }
 }
 
 // The end of a part that has no redex.
-fn kept(alloc: Global, t: &Term, left: u32) -> Result<Ended, AllocError>
+#[inline(never)]
+fn kept(alloc: Global, t: &Term, left: u32) -> Result<Ended, ConvError>
     ensures term { IfOk result (λ r. r.term ≡ t.now) }
     ensures left { IfOk result (λ r. r.left ≡ left) }
     ensures node { IfOk result (λ r. r.node.value ≡ Same) }
+    ensures memory { IfErr result (λ e. e ≡ Memory) }
 {
     Ok(Ended {
         term: t.copy()?,
         left,
         node: TraceNode::boxed(alloc, TraceNode::Same)?,
     })
+}
+
+// The end of a part that is a redex.
+#[inline(never)]
+#[tactic(auto, using(crate::proofs::OnceParts::parts))]
+fn at_redex(
+    alloc: Global,
+    redexes: &Redexes,
+    t: &Term,
+    outside: u32,
+    left: u32,
+) -> Result<Ended, ConvError>
+    requires counted { outside ≤ 20001 }
+    requires redex { contraction redexes.now [] (nameless [] t.now) ≡ None → ⊥ }
+    ensures tells { TellsEnd result (once_beside (contraction redexes.now) [] outside left (nameless [] t.now)) }
+    ensures typed { IfOk result (λ r. named_type r.term ≡ named_type t.now) }
+    ensures traces { IfOk result (λ r. Traces (redex_givens redexes.now) r.node.value (nameless [] t.now) (nameless [] r.term)) }
+{
+    match redexes.contract(alloc, t)? {
+        Some(redex) => paid_beside(redex, outside, left),
+        None => unreachable!(),
+    }
 }
 
 // The turn in which the part becomes this term.
@@ -102,6 +127,18 @@ fn once_in_parts(
     let function = once_beside(alloc, redexes, f, beside(outside, x.size()), left)?;
     let nodes = beside(outside, function.term.size());
     let argument = once_beside(alloc, redexes, x, nodes, function.left)?;
+    in_application(alloc, function, argument)
+}
+
+// The end of an application, by those of its function and its argument.
+#[inline(never)]
+fn in_application(alloc: Global, function: Ended, argument: Ended) -> Result<Ended, ConvError>
+    requires { named_type (comb function.term argument.term) ≡ None → ⊥ }
+    ensures term { IfOk result (λ r. r.term ≡ comb function.term argument.term) }
+    ensures left { IfOk result (λ r. r.left ≡ argument.left) }
+    ensures node { IfOk result (λ r. IsParts function.node.value argument.node.value r.node.value) }
+    ensures memory { IfErr result (λ e. e ≡ Memory) }
+{
     let term = Term::application(alloc, &function.term, &argument.term)?;
     let node = TraceNode::parts(alloc, function.node, argument.node)?;
     Ok(Ended {
@@ -131,8 +168,19 @@ fn once_in_body(
     let inside = redexes.opened(alloc, v, b)?;
     let nodes = beside(outside, v.ty().size());
     let body = once_beside(alloc, redexes, &inside.body, nodes, left)?;
-    let term = Term::abstraction(alloc, &inside.variable, &body.term)?;
-    let node = TraceNode::body(alloc, &inside.variable, body.node)?;
+    in_abstraction(alloc, &inside.variable, body)
+}
+
+// The end of an abstraction of `v`, by that of its body.
+#[inline(never)]
+fn in_abstraction(alloc: Global, v: &Variable, body: Ended) -> Result<Ended, ConvError>
+    ensures term { IfOk result (λ r. r.term ≡ abs v.now body.term) }
+    ensures left { IfOk result (λ r. r.left ≡ body.left) }
+    ensures node { IfOk result (λ r. IsBody v.now body.node.value r.node.value) }
+    ensures memory { IfErr result (λ e. e ≡ Memory) }
+{
+    let term = Term::abstraction(alloc, v, &body.term)?;
+    let node = TraceNode::body(alloc, v, body.node)?;
     Ok(Ended {
         term,
         left: body.left,

@@ -7,7 +7,7 @@ ghost use Rattle.hol_terms.specs.Size.{term_size};
 ghost use Rattle.hol_conv.specs.Redexes.{contraction, depth};
 ghost use Rattle.hol_conv.specs.Turns.{turn};
 ghost use Rattle.hol_conv.specs.Tracing.{Traces, redex_givens};
-ghost use Rattle.hol_conv.specs.Places.{whole, waiting, AreWalked, Stands, Lands, Took, StepsIn, is_marked, LeadsAround, LeadsThrough};
+ghost use Rattle.hol_conv.specs.Places.{whole, waiting, AreWalked, Stands, Lands, Took, StepsIn, ComesBack, is_marked, LeadsAround, LeadsThrough};
 
 use crate::frame::{After, Frame, Step};
 use crate::redexes::{Contracted, Redexes};
@@ -266,11 +266,19 @@ fn rise(
         return Ok(Some(term));
     }
     let is_passed_over = is_marked(frames) && redexes.passes_over(&term);
-    frames.push(Frame {
-        step: frame.step,
-        is_passed_over,
-    })?;
+    come_back(frames, frame.step, is_passed_over)?;
     Ok(None)
+}
+
+// Puts the frame at the end.
+#[inline(never)]
+fn come_back(frames: &mut Vec<Frame>, step: Step, is_passed_over: bool) -> Result<(), AllocError>
+    ensures { OnOk result (ComesBack step is_passed_over frames.old.items frames.new.items) }
+{
+    Ok(frames.push(Frame {
+        step,
+        is_passed_over,
+    })?)
 }
 
 // Whether it is known that the innermost frame's term, and each one above, is passed over.

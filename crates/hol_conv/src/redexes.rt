@@ -1,5 +1,5 @@
 //! What is replaced in a turn.
-ghost use Rattle.std.specs.Prelude.{◌≡◌, [], IfOk, IfSome, IsFalse, MatchOption, Some, None};
+ghost use Rattle.std.specs.Prelude.{◌≡◌, [], IfOk, IfSome, IsFalse, IsTrue, MatchOption, Some, None};
 ghost use Rattle.hol_terms.specs.Named.{abs, named_type};
 ghost use Rattle.hol_terms.specs.Nameless.{nameless};
 ghost use Rattle.hol_match.specs.Contracta.{contractum};
@@ -44,11 +44,12 @@ impl<'a> Redexes<'a> {
         }
     }
 
-    /// Whether the term is a redex; where it is said to be none, it is none.
+    /// Whether the term is a redex.
     #[inline(never)]
     #[tactic(auto, using(crate::proofs::RedexLaws::no_redexes))]
     pub(crate) fn is_redex(&self, alloc: Global, t: &Term) -> Result<bool, AllocError>
-        ensures { IfOk result (λ b. IsFalse b → contraction self.now [] (nameless [] t.now) ≡ None) }
+        ensures none { IfOk result (λ b. IsFalse b → contraction self.now [] (nameless [] t.now) ≡ None) }
+        ensures some { IfOk result (λ b. IsTrue b → contraction self.now [] (nameless [] t.now) ≡ None → ⊥) }
     {
         match self {
             Redexes::Beta => Ok(is_applied_abstraction(t)),

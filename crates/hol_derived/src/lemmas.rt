@@ -17,7 +17,7 @@ ghost use Rattle.hol_derived.specs.Lemmas.{hypothesis, conclusion, lemma_at, gen
 use crate::lemma::{LEMMAS, Lemma, derived};
 use crate::letters::letter;
 use crate::truth::truth;
-use hol_equal::applied::{inst_type, prove_hyp, unrefused};
+use hol_equal::applied::{inst_type, prove_hyp};
 use hol_formulas::{bool_type, occurrence, variable};
 use hol_kernel::{Basis, Thm};
 use hol_terms::Term;
@@ -148,7 +148,7 @@ impl Lemmas {
         ensures { IfOk result (λ th. th ≡ theorem_on a.now.basis (put (nameless [] p.now) (nameless [] q.now) a.now.sequent)) }
     {
         let pairs = self.beside_letters(alloc, p, q)?;
-        unrefused(Thm::inst(alloc, &pairs, a))
+        Thm::inst_typed(alloc, &pairs, a)
     }
 
     /// An instance of the general theorem.
@@ -206,7 +206,7 @@ fn with_property(alloc: Global, a: &Thm, ty: &Ty, f: &Term) -> Result<Thm, Alloc
 {
     let mut pairs = Vec::new(alloc);
     pairs.push((f.copy()?, property_at(alloc, ty)?))?;
-    unrefused(Thm::inst(alloc, &pairs, a))
+    Thm::inst_typed(alloc, &pairs, a)
 }
 
 /// INST_TYPE and INST: the theorem with the type for `A`, and the predicate on it for `P`.
@@ -249,7 +249,7 @@ fn with_member(alloc: Global, a: &Thm, ty: &Ty, f: &Term, t: &Term) -> Result<Th
     ensures { IfOk result (λ th. th ≡ theorem_on a.now.basis (sequent_image (term_subst ((nameless [] f.now, (codes "P", fun_type ty.now bool_type)) ∷ (nameless [] t.now, (codes "x", ty.now)) ∷ []) 0) a.now.sequent)) }
 {
     let pairs = beside_member(alloc, ty, f, t)?;
-    unrefused(Thm::inst(alloc, &pairs, a))
+    Thm::inst_typed(alloc, &pairs, a)
 }
 
 /// INST_TYPE and INST: the theorem with the type for `A`, the predicate on it for `P`, and the term for `x`.

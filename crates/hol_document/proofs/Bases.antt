@@ -13,7 +13,7 @@ use Rattle.hol_types.specs.Order.{name_cmp}
 use Rattle.hol_types.proofs.OrderLaws.{name_equal, name_same}
 use Rattle.hol_kernel.specs.Items.{Items}
 use Rattle.hol_theory.specs.Key.{theorem_key}
-use Rattle.hol_theory.specs.Entry.{EntryValue, AType, AConstant, ATheorem, entry_at}
+use Rattle.hol_theory.specs.Entry.{EntryValue, AType, AConstant, ATheorem, ATac, entry_at}
 use Rattle.hol_exec.specs.StateValue.{StateValue}
 use Rattle.hol_document.specs.declared.error.Refusal.{Refusal}
 use Rattle.hol_document.specs.Documents.{Documents, find_theory}
@@ -100,6 +100,7 @@ one_texts None None (Some ys) h k = absurd k
 one_texts None (Some xs) b h k = absurd h
 one_texts (Some (AType arity item basis)) a b h k = h ∙ sym k
 one_texts (Some (AConstant ty item basis)) a b h k = h ∙ sym k
+one_texts (Some (ATac t bases basis)) a b h k = h ∙ sym k
 one_texts (Some (ATheorem th)) None b h k = absurd h
 one_texts (Some (ATheorem th)) (Some xs) None h k = absurd k
 one_texts (Some (ATheorem th)) (Some xs) (Some ys) h k = ap Some (one_list th.basis xs ys h k)

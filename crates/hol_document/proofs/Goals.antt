@@ -12,7 +12,7 @@ use Rattle.hol_stack.specs.StackValue.{StepValue}
 use Rattle.hol_exec.specs.Local.{finished, finishes}
 use Rattle.hol_exec.specs.OutcomeValue.{OutcomeValue, Opens, Leaves, Undoes, Rotates, Makes, Refuses, stepped_in, without_newest, undone_in, rotated_in, after}
 use Rattle.hol_exec.specs.Reading.{ReadText, Reads, Breaks}
-use Rattle.hol_exec.specs.CommandText.{Local, Direct, Goal, Apply, Qed, Make}
+use Rattle.hol_exec.specs.CommandText.{Local, Direct, Goal, Apply, Qed, DefineTac, Make}
 use Rattle.hol_exec.specs.ReadsValue.{ReadsValue, ClosingValue, closing_of, reads_of, AreReads}
 use Rattle.hol_exec.specs.Setup.{SetupValue}
 use Rattle.hol_exec.specs.StateValue.{ProofValue, StateValue, EndedTheory, start}
@@ -68,6 +68,7 @@ row_finishes setup earlier before s (Reads (Local Qed)) (Some reads) tested outc
     let same : reads ≡ reads_of Qed s = cc in
     let is : outcome ≡ finishes (closing_of s.proof) = ap (λ (l : LocalValue). l.outcome) (rw same at h) in
     rw is (qed_finishes before s.proof k)
+row_finishes setup earlier before s (Reads (Local (DefineTac name tactic))) reads tested outcome are h k = tt
 row_finishes setup earlier before s (Reads (Local (Make making))) reads tested outcome are h k = tt
 row_finishes setup earlier before s (Reads (Direct command)) reads tested outcome are h k = tt
 row_finishes setup earlier before s (Breaks place) reads tested outcome are h k = tt

@@ -2,7 +2,7 @@
 -- Source: this project.
 use Rattle.std.specs.Prelude.{◌≡◌, ℕ, List, [], ◌∷◌, ◌++◌, ◌≤◌, ◌<◌, ⊤, length, map, take, Option, Some, None, Result, Ok, Err, slice_index_or}
 use Rattle.hol_theory.specs.Key.{KeyValue, theorem_key}
-use Rattle.hol_theory.specs.Entry.{EntryValue, AType, AConstant, ATheorem, Entries, entry_at}
+use Rattle.hol_theory.specs.Entry.{EntryValue, AType, AConstant, ATheorem, ATac, Entries, entry_at}
 use Rattle.hol_exec.specs.OutcomeValue.{after}
 use Rattle.hol_exec.specs.ReportValue.{ReportValue}
 use Rattle.hol_exec.specs.ReportOf.{report_of, entry_text}
@@ -56,6 +56,7 @@ BasisTexts (Some (AType arity item basis)) answer = answer ≡ None
 BasisTexts (Some (AConstant ty item basis)) answer = answer ≡ None
 BasisTexts (Some (ATheorem th)) None = ⊥
 BasisTexts (Some (ATheorem th)) (Some texts) = AreItemTexts th.basis texts
+BasisTexts (Some (ATac e bases basis)) answer = answer ≡ None
 
 -- The theory is run afresh, and the theorem of this name in its last state has this basis.
 pub record IsBasis (docs : Documents) (i : ℕ) (name : List ℕ) (answer : Option (List (List ℕ))) : Type 0 where
@@ -80,6 +81,7 @@ abbrev pub theorem_texts_of : KeyValue × EntryValue → List (List ℕ)
 theorem_texts_of (key, AType arity item basis) = []
 theorem_texts_of (key, AConstant ty item basis) = []
 theorem_texts_of (key, ATheorem th) = entry_text (key, ATheorem th) ∷ []
+theorem_texts_of (key, ATac e bases basis) = []
 
 abbrev pub theorem_texts : Entries → List (List ℕ)
 theorem_texts [] = []

@@ -8,9 +8,9 @@ use Rattle.hol_terms.specs.Nameless.{Nameless}
 use Rattle.hol_kernel.specs.Sequent.{no_hyps}
 use Rattle.hol_kernel.specs.Theorem.{Theorem}
 use Rattle.hol_exec.specs.Reading.{ReadText, Reads, Breaks}
-use Rattle.hol_exec.specs.CommandText.{Local, Direct, Goal, Apply, Qed, Make}
+use Rattle.hol_exec.specs.CommandText.{Local, Direct, Goal, Apply, Qed, DefineTac, Make}
 use Rattle.hol_theory.specs.Key.{KeyValue, theorem_key}
-use Rattle.hol_theory.specs.Entry.{EntryValue, AType, AConstant, ATheorem, Entries}
+use Rattle.hol_theory.specs.Entry.{EntryValue, AType, AConstant, ATheorem, ATac, Entries}
 use Rattle.hol_theory.specs.Theory.{IsTheory}
 use Rattle.hol_exec.specs.OutcomeValue.{OutcomeValue, Opens, Leaves, Undoes, Rotates, Makes, Refuses, MakesTheorems, after}
 use Rattle.hol_exec.specs.ReportValue.{ReportValue}
@@ -45,6 +45,7 @@ abbrev pub IsFinishedEntry : List Row → KeyValue × EntryValue → Type 0
 IsFinishedEntry rows (key, AType arity item basis) = ⊥
 IsFinishedEntry rows (key, AConstant ty item basis) = ⊥
 IsFinishedEntry rows (key, ATheorem th) = IsFinished rows key th
+IsFinishedEntry rows (key, ATac e bases basis) = ⊥
 
 abbrev pub EachFinished : List Row → Entries → Type 0
 EachFinished rows [] = Unit {0}
@@ -64,6 +65,7 @@ abbrev pub FinishesBy : List Row → ReadText → OutcomeValue → Type 0
 FinishesBy rows (Reads (Local (Goal name quotation))) outcome = Unit {0}
 FinishesBy rows (Reads (Local (Apply call))) outcome = Unit {0}
 FinishesBy rows (Reads (Local Qed)) outcome = MakesFinished rows outcome
+FinishesBy rows (Reads (Local (DefineTac name tactic))) outcome = Unit {0}
 FinishesBy rows (Reads (Local (Make making))) outcome = Unit {0}
 FinishesBy rows (Reads (Direct command)) outcome = Unit {0}
 FinishesBy rows (Breaks place) outcome = Unit {0}

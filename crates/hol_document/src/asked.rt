@@ -53,7 +53,7 @@ fn basis_texts(alloc: Global, entry: &Value) -> Result<Option<Vec<String>>, Allo
     ensures { IfOk result (λ texts. BasisTexts (Some entry.now) (option_map (λ ts. map string_bytes ts.items) texts)) }
 {
     match entry.node() {
-        ValueNode::Type { .. } | ValueNode::Constant { .. } => Ok(None),
+        ValueNode::Type { .. } | ValueNode::Constant { .. } | ValueNode::Tac { .. } => Ok(None),
         ValueNode::Theorem(theorem) => Ok(Some(item_texts(alloc, theorem.basis())?)),
     }
 }
@@ -95,7 +95,7 @@ fn add_theorem(
     ensures { OnOk result (map string_bytes texts.new.items ≡ map string_bytes texts.old.items ++ theorem_texts_of (key.now, entry.now)) }
 {
     match entry.node() {
-        ValueNode::Type { .. } | ValueNode::Constant { .. } => {}
+        ValueNode::Type { .. } | ValueNode::Constant { .. } | ValueNode::Tac { .. } => {}
         ValueNode::Theorem(_) => texts.push(entry_text(alloc, key, entry)?)?,
     }
     Ok(())

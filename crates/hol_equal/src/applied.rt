@@ -15,7 +15,7 @@ ghost use Rattle.hol_equal.specs.Rules.{sym_of, prove_hyp_of, beta_conv_of};
 ghost use Rattle.hol_equal.specs.Unrefused.{IsUnrefused};
 
 pub use crate::replacement::subst;
-use hol_formulas::{Sides, constant, dest_eq, equality_type, occurrence};
+use hol_formulas::{Sides, dest_eq, occurrence};
 use hol_kernel::{Basis, KernelError, Thm};
 use hol_terms::{Term, TermNode, Variable};
 use hol_types::{Name, Ty};
@@ -40,7 +40,7 @@ pub fn refl(alloc: Global, basis: &Basis, ty: &Ty, t: &Term) -> Result<Thm, Allo
     requires typed { HasType basis.now (nameless [] t.now) ty.now }
     ensures { IfOk result (λ th. th ≡ theorem_on basis.now (reflexive (nameless [] t.now) ty.now)) }
 {
-    unrefused(Thm::refl(alloc, basis, t))
+    Thm::refl_typed(alloc, basis, t)
 }
 
 /// TRANS: from `s = m` and `n = t`, where `m` and `n` are equal up to bound names, `s = t`.
@@ -77,7 +77,7 @@ pub fn assume(alloc: Global, basis: &Basis, p: &Term) -> Result<Thm, AllocError>
     requires typed { HasType basis.now (nameless [] p.now) bool_type }
     ensures { IfOk result (λ th. th ≡ theorem_on basis.now (sequent_of (only_hyp (nameless [] p.now)) (nameless [] p.now))) }
 {
-    unrefused(Thm::assume(alloc, basis, p))
+    Thm::assume_typed(alloc, basis, p)
 }
 
 /// ABS: from `l = r`, for a variable of a type over the basis that is free in no hypothesis, `(\v. l) = (\v. r)`.
@@ -88,14 +88,6 @@ pub fn abs(alloc: Global, v: &Variable, a: &Thm) -> Result<Thm, AllocError>
 {
     let own = occurrence(alloc, v)?;
     unrefused(Thm::abs(alloc, &own, a))
-}
-
-// The constant `=` of the type.
-fn equality(alloc: Global, ty: &Ty) -> Result<Term, AllocError>
-    ensures { IfOk result (λ t. t ≡ constant (codes "=") ty.now) }
-{
-    let sign = Name::new(alloc, "=")?;
-    constant(alloc, &sign, ty)
 }
 
 /// The sides of the theorem's conclusion.
@@ -134,15 +126,26 @@ pub(crate) fn alpha(
     trans(alloc, &left, &right)
 }
 
+// `=` of a theorem that is an equation of terms of the type.
+fn sign_of<'a>(th: &'a Thm, ty: &Ty) -> &'a Term
+    requires equation { dest_eq th.now.sequent.concl ≡ None → ⊥ }
+    requires equal { th.now.sequent.concl ≡ equation ty.now (lhs th.now.sequent.concl) (rhs th.now.sequent.concl) }
+    ensures { result.now ≡ constant (codes "=") (equality_type ty.now) }
+{
+    let Some(sides) = dest_eq(th.concl()) else {
+        unreachable!()
+    };
+    sides.sign
+}
+
 // From `l = r`, `(=) l = (=) r`; the type is that of `l`.
 fn under_equality(alloc: Global, ty: &Ty, a: &Thm) -> Result<Thm, AllocError>
     requires equal { a.now.sequent.concl ≡ equation ty.now (lhs a.now.sequent.concl) (rhs a.now.sequent.concl) }
     ensures { IfOk result (λ th. th ≡ theorem_on a.now.basis (under (equality_type ty.now) (fixed (codes "=") (equality_type ty.now)) a.now.sequent)) }
 {
     a.well_typed();
-    let own = equality_type(alloc, ty)?;
-    let sign = equality(alloc, &own)?;
-    ap_term(alloc, &own, &sign, a)
+    let sign = sign_of(a, ty);
+    ap_term(alloc, sign.type_of(), sign, a)
 }
 
 // From `(=) l = (=) r`, `r = l`; the type is that of `l`.
@@ -212,7 +215,7 @@ fn beta(
 {
     let own = occurrence(alloc, v)?;
     let redex = Term::application(alloc, f, &own)?;
-    unrefused(Thm::beta(alloc, basis, &redex))
+    Thm::beta_typed(alloc, basis, &redex)
 }
 
 // INST: the theorem with the term for the variable.
@@ -223,7 +226,7 @@ fn inst(alloc: Global, x: &Term, v: &Variable, a: &Thm) -> Result<Thm, AllocErro
     let mut pairs = Vec::new(alloc);
     let own = occurrence(alloc, v)?;
     pairs.push((x.copy()?, own))?;
-    unrefused(Thm::inst(alloc, &pairs, a))
+    Thm::inst_typed(alloc, &pairs, a)
 }
 
 /// INST_TYPE: the theorem with a type over its basis for the type variable of the name.

@@ -1,5 +1,5 @@
 -- What a command reads stands in a theory: its bases lie in the items of that, and so does their union, which is legal.
-use Rattle.std.specs.Prelude.{◌≡◌, ◌<◌, ◌≤◌, ◌+◌, ◌/◌, ℕ, Bool, true, false, cond, List, [], ◌∷◌, ◌++◌, length, get_or, Option, Some, None, refl}
+use Rattle.std.specs.Prelude.{◌≡◌, ◌<◌, ◌≤◌, ◌+◌, ◌/◌, ℕ, Bool, true, false, cond, List, [], ◌∷◌, ◌++◌, length, get_or, filter, Option, Some, None, refl}
 use Rattle.std.specs.Map.{keys_of}
 use Rattle.std.specs.FinSet as set
 use Rattle.std.proofs.Common.{ap, sym, ◌∙◌, subst, inl, inr, arith}
@@ -18,8 +18,9 @@ use Rattle.hol_stack.proofs.Within.{within_union}
 use Rattle.hol_resolve.specs.Readings.{QuotedValue, ReadingsValue}
 use Rattle.hol_resolve.specs.ReadingView.{list_value}
 use Rattle.hol_resolve.specs.declared.readings.Quoted.{Quoted}
+use Rattle.hol_combine.specs.ExprValue.{ExprValue}
 use Rattle.hol_theory.specs.Key.{KeyValue}
-use Rattle.hol_theory.specs.Entry.{EntryValue, AType, AConstant, ATheorem, Entries, IsEntry, entry_at, entry_basis}
+use Rattle.hol_theory.specs.Entry.{EntryValue, AType, AConstant, ATheorem, Entries, IsEntry, entry_at, entry_basis, ATac}
 use Rattle.hol_theory.specs.Theory.{items_in, IsTheory}
 use Rattle.hol_theory.proofs.Theories.{items_agree}
 use Rattle.hol_notation_commands.specs.Text.{LocalText}
@@ -72,6 +73,7 @@ module _ (es : Entries) (t : IsTheory es) (readings : ReadingsValue) where
   legal_of (AType arity item basis) key h = h.legal
   legal_of (AConstant ty item basis) key h = h.legal
   legal_of (ATheorem th) key h = h.theorem.legal
+  legal_of (ATac e bases basis) key h = h.legal
 
   abbrev Fine : Items → Type 0
   Fine items = IsSubset items (items_in es) × IsLegalSet items
@@ -93,6 +95,8 @@ module _ (es : Entries) (t : IsTheory es) (readings : ReadingsValue) where
       by false = h
   value_fine items key (Some (ATheorem th)) e h =
       join_fine items th.basis h (entry_within es key (ATheorem th) t (sym e), legal_of (ATheorem th) key (entry_is es key (ATheorem th) t (sym e)))
+  value_fine items key (Some (ATac x bases basis)) e h =
+      join_fine items basis h (entry_within es key (ATac x bases basis) t (sym e), legal_of (ATac x bases basis) key (entry_is es key (ATac x bases basis) t (sym e)))
 
   values_fine : (cited : Values) (items : Items) → StandIn es cited → Fine items → Fine (with_values readings items cited)
   values_fine [] items h k = k
@@ -140,6 +144,7 @@ module _ (readings : ReadingsValue) where
       by true = ap (set.union items) (sym (none_joined basis))
       by false = none_more items
   value_joined items key (Some (ATheorem th)) = ap (set.union items) (sym (none_joined th.basis))
+  value_joined items key (Some (ATac e bases basis)) = ap (set.union items) (sym (none_joined basis))
 
   values_joined : (items : Items) (values : Values) → with_values readings items values ≡ set.union items (with_values readings no_items values)
   values_joined items [] = none_more items
@@ -182,6 +187,10 @@ module _ (readings : ReadingsValue) where
   adds_theorem key o v th own basis there is same e =
       e ∙ same ∙ sym (none_joined th.basis) ∙ sym (ap (with_value readings no_items key) (there ∙ ap Some is))
 
+  pub adds_tac : (key : KeyValue) (o : Option EntryValue) (v : EntryValue) (x : ExprValue) (bases : List Items) (own basis : Items)
+      → o ≡ Some v → v ≡ ATac x bases own → basis ≡ own → basis ≡ with_value readings no_items key o
+  adds_tac key o v x bases own basis there is e = e ∙ sym (none_joined own) ∙ sym (ap (with_value readings no_items key) (there ∙ ap Some is))
+
 front_stands : (es : Entries) (front back : Values) → StandIn es (front ++ back) → StandIn es front
 front_stands es [] back h = tt
 front_stands es ((key, value) ∷ more) back h = (h.0, front_stands es more back h.1)
@@ -221,3 +230,21 @@ halves_agree cited made front back readings e h =
     items_agree es (resolved_basis front readings) (resolved_basis back readings) h.theory
     (resolved_fine es h.theory readings front (front_stands es front back stand)).0
     (resolved_fine es h.theory readings back (back_stands es front back stand)).0
+
+-- ---- some of what is cited
+
+some_stand : (es : Entries) (test : KeyValue × Option EntryValue → Bool) (cited : Values) → StandIn es cited → StandIn es (filter test cited)
+some_stand es test [] h = tt
+some_stand es test ((key, value) ∷ more) h = by (test (key, value)) (some_stand es test more h.1)
+  where
+    by : (b : Bool) → StandIn es (filter test more) → StandIn es (cond b ((key, value) ∷ filter test more) (filter test more))
+    by true rest = (h.0, rest)
+    by false rest = rest
+
+pub some_of_theory : (cited made own : Values) (test : KeyValue × Option EntryValue → Bool) → own ≡ filter test cited → AreOfTheory cited made → AreOfTheory own made
+some_of_theory cited made own test e h = record {
+  entries = h.entries;
+  theory = h.theory;
+  cited_stand = subst (StandIn h.entries) (sym e) (some_stand h.entries test cited h.cited_stand);
+  made_stand = h.made_stand;
+}

@@ -1,6 +1,6 @@
 -- What an outcome that a state may get rests on: what is made stands under new keys and can follow what stands, and what is opened or left rests on what
 -- stands.
-use Rattle.std.specs.Prelude.{◌≡◌, ◌⊎◌, ◌||◌, ℕ, Bool, true, false, cond, List, [], ◌∷◌, ◌++◌, map, length, nat_eq, decimal, bytes_eq, Option, Some, None, is_some, is_none, Result, Ok, Err, refl}
+use Rattle.std.specs.Prelude.{◌≡◌, ◌⊎◌, ◌||◌, ℕ, Bool, true, false, cond, List, [], ◌∷◌, ◌++◌, map, length, nat_eq, nat_lt, decimal, bytes_eq, Option, Some, None, is_some, is_none, Result, Ok, Err, refl}
 use Rattle.std.specs.List.{IsDistinct, list_any}
 use Rattle.std.specs.Map.{keys_of}
 use Rattle.std.specs.Option.{option_and_then}
@@ -20,12 +20,13 @@ use Rattle.hol_kernel.specs.Typing.{is_type_at}
 use Rattle.hol_kernel.proofs.Members.{Among}
 use Rattle.hol_kernel.proofs.Subsets.{none_within}
 use Rattle.hol_notation_terms.specs.Text.{QuotationText, DefinitionText}
-use Rattle.hol_notation_tactics.specs.Parts.{parts_of}
+use Rattle.hol_notation_tactics.specs.Parts.{parts_of, calls_in}
 use Rattle.hol_notation_tactics.specs.Text.{TacText}
-use Rattle.hol_notation_commands.specs.Text.{TypeDefinitionText, MakingText, NewType, NewConstant, NewAxiom, NewDefinition, NewBasicTypeDefinition, LocalText, Goal, Apply, Qed, Make, DirectText, Back, Rotate, Oops, Import, Local, Direct}
+use Rattle.hol_notation_commands.specs.Text.{TypeDefinitionText, MakingText, NewType, NewConstant, NewAxiom, NewDefinition, NewBasicTypeDefinition, LocalText, Goal, Apply, Qed, DefineTac, Make, DirectText, Back, Rotate, Oops, Import, Local, Direct}
 use Rattle.hol_goal.specs.Answer.{starting}
 use Rattle.hol_goal.specs.Goal.{GoalValue}
 use Rattle.hol_stack.specs.StackValue.{StepValue}
+use Rattle.hol_combine.specs.ExprSize.{expr_size}
 use Rattle.hol_combine.specs.ExprValue.{ExprValue}
 use Rattle.hol_combine.specs.Runs.{RefusalValue, DoesNotFit, LacksHyps, StopValue, TurnLimit, LargeGoal, RunValue, run}
 use Rattle.hol_combine.specs.Runs as runs
@@ -36,8 +37,8 @@ use Rattle.hol_resolve.specs.Readings as quoting
 use Rattle.hol_resolve.specs.declared.refusal.Refusal.{Refusal}
 use Rattle.hol_theory.specs.Adding.{AreNew, CanFollow, first_clash, missing}
 use Rattle.hol_theory.specs.Constants.{constant_names}
-use Rattle.hol_theory.specs.Entry.{Entries, EntryValue, AType, AConstant, ATheorem, EachIsEntry, entry_at}
-use Rattle.hol_theory.specs.Key.{KeyValue, key_eq, type_key, constant_key, theorem_key}
+use Rattle.hol_theory.specs.Entry.{Entries, EntryValue, AType, AConstant, ATheorem, ATac, EachIsEntry, entry_at}
+use Rattle.hol_theory.specs.Key.{KeyValue, key_eq, type_key, constant_key, theorem_key, tac_key}
 use Rattle.hol_theory.specs.Making.{IsNewType, IsNewConstant, IsNewAxiom, item_entries, constant_entry}
 use Rattle.hol_theory.specs.Theory.{items_in, IsTheory}
 use Rattle.hol_theory.proofs.Entries.{new_of}
@@ -55,12 +56,15 @@ use Rattle.hol_exec.specs.ReadsValue.{ReadsValue, ClosingValue, values_of, reads
 use Rattle.hol_exec.specs.Signature.{signature_of}
 use Rattle.hol_exec.specs.Resolved.{theorem_at, resolved_basis}
 use Rattle.hol_exec.specs.Standing.{is_standing, first_taken}
-use Rattle.hol_exec.specs.Expr.{RefusedValue, ResolutionValue, Resolved, Unresolved, formulas_in, first_not_bool, named_refusals, first_refusal, resolved_expr, resolution_of, resolved_formulas, resolved_read, IsResolvedPast}
+use Rattle.hol_exec.specs.Expr.{RefusedValue, ResolutionValue, Resolved, Unresolved, formulas_in, first_not_bool, named_refusals, first_refusal, resolved_expr, resolution_of, resolved_untaken, resolved_formulas, resolved_read, IsResolvedPast}
 use Rattle.hol_exec.specs.OutcomeValue.{OutcomeValue, Opens, Leaves, Undoes, Rotates, Makes, Refuses, without_newest}
 use Rattle.hol_exec.specs.Defining.{first_free, first_unreflected}
 use Rattle.hol_definition.specs.ForAll.{for_all}
 use Rattle.hol_equal.specs.Applied.{rand}
 use Rattle.hol_exec.specs.Making.{UnlessTaken, taken, MakesOne, MakesConstantOf, StatesAxiom, MakesAxiomOf, MakesDefined, UnlessOpen, MakesDefinitionOf, UnlessFree, MakesTypeBy, MakesTypeOf, MakesTypeFrom, IsMade, IsMaking}
+use Rattle.hol_exec.specs.Callee.{registered}
+use Rattle.hol_exec.specs.Naming.{taken_tac, names_expr, names_resolved, IsNaming}
+use Rattle.hol_exec.specs.OwnBases.{own_bases}
 use Rattle.hol_exec.specs.Tested.{TestedValue}
 use Rattle.hol_exec.specs.Local.{LocalValue, opens, opens_read, IsOpening, refused_outcome, stopped_outcome, run_outcome, applied, resolved_outcome, IsApplying, finished, finishes, IsLocalOutcome}
 use Rattle.hol_exec.specs.At.{undoes_to, undoes, rotates_goals, rotates, drops, imports_theory, imports_from, entries_named, direct, IsOutcome, IsOutcomeAt}
@@ -149,44 +153,82 @@ module _ (es : Entries) (t : IsTheory es) where
   applying setup names None x basis within = tt
   applying setup names (Some goal) x basis within = running names goal basis (run (known setup.table names) x goal (starting setup.turns)) within
 
-  abbrev Rests : ResolutionValue → Type 0
-  Rests (Resolved x basis) = IsSubset basis (items_in es)
-  Rests (Unresolved kind arg) = Unit {0}
+  -- what is resolved rests on what stands, and no key that is made is taken
+  abbrev Rests : Option KeyValue → ResolutionValue → Type 0
+  Rests taken (Resolved x basis readings) = IsSubset basis (items_in es) × (taken ≡ None)
+  Rests taken (Unresolved kind arg) = Unit {0}
 
-  resolving : (setup : SetupValue) (names : List (List ℕ)) (o : Option GoalValue) (r : ResolutionValue) → Rests r → Fits es (resolved_outcome setup names o r).outcome
-  resolving setup names o (Resolved x basis) h = applying setup names o x basis h
+  resolving : (setup : SetupValue) (names : List (List ℕ)) (o : Option GoalValue) (r : ResolutionValue) → Rests None r → Fits es (resolved_outcome setup names o r).outcome
+  resolving setup names o (Resolved x basis readings) h = applying setup names o x basis h.0
   resolving setup names o (Unresolved kind arg) h = tt
 
-  resting : (basis : Items) (r : Result ExprValue RefusedValue) → IsSubset basis (items_in es) → Rests (resolution_of basis r)
-  resting basis (Ok x) within = within
-  resting basis (Err r) within = tt
+  resting : (basis : Items) (readings : ReadingsValue) (r : Result ExprValue RefusedValue) → IsSubset basis (items_in es) → Rests None (resolution_of basis readings r)
+  resting basis readings (Ok x) within = (within, refl)
+  resting basis readings (Err r) within = tt
 
-  resting_formulas : (setup : SetupValue) (tactic : TacText) (keys : List KeyValue) (readings : ReadingsValue) (o : Option ℕ) → Rests (resolved_formulas setup tactic (values_of es keys) readings o)
-  resting_formulas setup tactic keys readings (Some place) = tt
-  resting_formulas setup tactic keys readings None =
+  resting_untaken : (setup : SetupValue) (taken : Option KeyValue) (tactic : TacText) (keys : List KeyValue) (readings : ReadingsValue) → Rests taken (resolved_untaken setup taken tactic (values_of es keys) readings)
+  resting_untaken setup (Some key) tactic keys readings = tt
+  resting_untaken setup None tactic keys readings =
       let basis : Items = resolved_basis (values_of es keys) readings in
-      resting basis (resolved_expr (record { table = setup.table; cited = values_of es keys; readings = readings; basis = basis }) tactic) (resolved_within es keys readings t)
+      resting basis readings (resolved_expr (record { table = setup.table; cited = values_of es keys; readings = readings; basis = basis }) tactic) (resolved_within es keys readings t)
 
-  resting_read : (setup : SetupValue) (tactic : TacText) (keys : List KeyValue) (r : Result ReadingsValue Refusal) → Rests (resolved_read setup tactic (values_of es keys) r)
-  resting_read setup tactic keys (Ok readings) = resting_formulas setup tactic keys readings (first_not_bool readings (formulas_in (parts_of tactic)))
-  resting_read setup tactic keys (Err r) = tt
+  resting_formulas : (setup : SetupValue) (taken : Option KeyValue) (tactic : TacText) (keys : List KeyValue) (readings : ReadingsValue) (o : Option ℕ) → Rests taken (resolved_formulas setup taken tactic (values_of es keys) readings o)
+  resting_formulas setup taken tactic keys readings (Some place) = tt
+  resting_formulas setup taken tactic keys readings None = resting_untaken setup taken tactic keys readings
 
-  resting_past : (setup : SetupValue) (tactic : TacText) (keys : List KeyValue) (o : Option (RefusalKind × List ℕ)) (r : ResolutionValue) → IsResolvedPast setup tactic (values_of es keys) o r → Rests r
-  resting_past setup tactic keys (Some refused) r h = subst Rests (sym h) tt
-  resting_past setup tactic keys None r h = subst Rests (sym h.2) (resting_read setup tactic keys h.0)
+  resting_read : (setup : SetupValue) (taken : Option KeyValue) (tactic : TacText) (keys : List KeyValue) (r : Result ReadingsValue Refusal) → Rests taken (resolved_read setup taken tactic (values_of es keys) r)
+  resting_read setup taken tactic keys (Ok readings) = resting_formulas setup taken tactic keys readings (first_not_bool readings (formulas_in (parts_of tactic)))
+  resting_read setup taken tactic keys (Err r) = tt
+
+  resting_past : (setup : SetupValue) (taken : Option KeyValue) (tactic : TacText) (keys : List KeyValue) (o : Option (RefusalKind × List ℕ)) (r : ResolutionValue) → IsResolvedPast setup taken tactic (values_of es keys) o r → Rests taken r
+  resting_past setup taken tactic keys (Some refused) r h = subst (Rests taken) (sym h) tt
+  resting_past setup taken tactic keys None r h = subst (Rests taken) (sym h.2) (resting_read setup taken tactic keys h.0)
 
 applying_fits : (s : StateValue) (in_proof : Bool) (setup : SetupValue) (names : List (List ℕ)) (tactic : TacText) (given : LocalValue) → IsTheory s.entries → IsApplying in_proof setup names tactic (reads_of (Apply tactic) s) given → Fits s.entries given.outcome
 applying_fits s false setup names tactic given t h = subst (λ (l : LocalValue). Fits s.entries l.outcome) (sym h) tt
 applying_fits s true setup names tactic given t h =
     subst (λ (l : LocalValue). Fits s.entries l.outcome) (sym h.2)
     (resolving s.entries t setup names (reads_of (Apply tactic) s).goal h.0
-    (resting_past s.entries t setup tactic (keys_in (parts_of tactic)) (first_refusal (named_refusals setup tactic (values_of s.entries (keys_in (parts_of tactic))))) h.0 h.1))
+    (resting_past s.entries t setup None tactic (keys_in (parts_of tactic)) (first_refusal (named_refusals setup tactic (values_of s.entries (keys_in (parts_of tactic))))) h.0 h.1))
 
--- ---- `qed`
+-- ---- one entry that is made
 
 one_absent : (es : Entries) (key : KeyValue) (value : EntryValue) → entry_at key es ≡ None → (f : KeyValue × EntryValue) → Among f ((key, value) ∷ []) → entry_at f.0 es ≡ None
 one_absent es key value free f (inl is) = ap (λ (g : KeyValue × EntryValue). entry_at g.0 es) is ∙ free
 one_absent es key value free f (inr none) = absurd none
+
+-- ---- `deftac`
+
+untaken_tac : (es : Entries) (setup : SetupValue) (name : List ℕ) (b : Bool) → cond b (Some (tac_key name)) (first_taken [] (values_of es (tac_key name ∷ []))) ≡ None → entry_at (tac_key name) es ≡ None
+untaken_tac es setup name true e = absurd (cc)
+untaken_tac es setup name false e = none_taken es [] (tac_key name ∷ []) e (tac_key name) (inl refl)
+
+naming_fits : (s : StateValue) (in_proof : Bool) (setup : SetupValue) (name : List ℕ) (tactic : TacText) (o : OutcomeValue) → IsTheory s.entries → IsNaming in_proof setup name tactic (reads_of (DefineTac name tactic) s) o → Fits s.entries o
+naming_fits s true setup name tactic o t h = subst (Fits s.entries) (sym h) tt
+naming_fits s false setup name tactic o t h =
+    subst (Fits s.entries) (sym h.2)
+    (by h.0 (resting_past es t setup (taken_tac setup name reads) tactic (keys_in (parts_of tactic)) (first_refusal (named_refusals setup tactic reads.cited)) h.0 h.1))
+  where
+    es : Entries
+    es = s.entries
+
+    reads : ReadsValue
+    reads = reads_of (DefineTac name tactic) s
+
+    sized : (e : ExprValue) (basis : Items) (readings : ReadingsValue) (b : Bool) → IsSubset basis (items_in es) → taken_tac setup name reads ≡ None
+        → Fits es (cond b (Refuses refusal.TooLarge []) (names_expr setup name tactic reads.cited readings e basis))
+    sized e basis readings true within free = tt
+    sized e basis readings false within free =
+        let value : EntryValue = ATac e (own_bases reads.cited readings setup.table (calls_in (parts_of tactic))) basis in (
+          one_absent es (tac_key name) value (untaken_tac es setup name (is_some (registered name setup.table)) free),
+          λ each. within_follow es ((tac_key name, value) ∷ []) each (within, tt),
+        )
+
+    by : (r : ResolutionValue) → Rests es t (taken_tac setup name reads) r → Fits es (names_resolved setup name tactic reads.cited r)
+    by (Resolved e basis readings) rests = sized e basis readings (nat_lt 20000 (expr_size e)) rests.0 rests.1
+    by (Unresolved kind arg) rests = tt
+
+-- ---- `qed`
 
 ending : (es : Entries) (c : ClosingValue) (b : Bool) → entry_at (theorem_key c.name) es ≡ None → IsSubset c.basis (items_in es) → Fits es (cond b (finished c) (Refuses refusal.GoalsRemain []))
 ending es c true free within =
@@ -338,6 +380,7 @@ module _ (es : Entries) (t : IsTheory es) where
       by None is f = prelude_within (items_in es) key.kind key.name th f
       by (Some (AType arity item basis)) is f = absurd (cc)
       by (Some (AConstant ty item basis)) is f = absurd (cc)
+      by (Some (ATac x bases basis)) is f = absurd (cc)
       by (Some (ATheorem own)) is f = let same : own ≡ th = cc in subst (λ (s : Theorem). IsSubset s.basis (items_in es)) same (entry_within es key (ATheorem own) t is)
 
   type_from_fits : (d : TypeDefinitionText) (reads : ReadsValue) (o : Option Theorem) (x : OutcomeValue) → reads.made ≡ values_of es (made_by_making (NewBasicTypeDefinition d)) →
@@ -388,6 +431,7 @@ local_fits : (setup : SetupValue) (names : List (List ℕ)) (command : LocalText
 local_fits setup names (Goal name q) s given t free within h = opening_fits s _ name q given.outcome t h.0
 local_fits setup names (Apply tactic) s given t free within h = applying_fits s _ setup names tactic given t h
 local_fits setup names Qed s given t free within h = subst (λ (l : LocalValue). Fits s.entries l.outcome) (sym h) (finishing s.entries s.proof free within)
+local_fits setup names (DefineTac name tactic) s given t free within h = naming_fits s _ setup name tactic given.outcome t h.0
 local_fits setup names (Make making) s given t free within h = making_fits s _ making given.outcome t h.0
 
 -- ---- what is answered from the state

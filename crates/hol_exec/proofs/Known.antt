@@ -27,7 +27,8 @@ use Rattle.hol_kernel.proofs.Weaken.{ordered_held, is_type_more}
 use Rattle.hol_infer.specs.Resolving.{arity_of, generic_type_of}
 use Rattle.hol_infer.specs.Standing.{stands, all_stand, TermStands, AreStanding}
 use Rattle.hol_theory.specs.Key.{KeyValue}
-use Rattle.hol_theory.specs.Entry.{EntryValue, AType, AConstant, ATheorem, IsConstantEntry, IsTypeEntry}
+use Rattle.hol_combine.specs.Suits.{suits_expr}
+use Rattle.hol_theory.specs.Entry.{EntryValue, AType, AConstant, ATheorem, ATac, IsConstantEntry, IsTypeEntry}
 use Rattle.hol_exec.specs.ReadsValue.{Values}
 use Rattle.hol_exec.specs.Signature.{cited_constants, cited_types, signature_of}
 
@@ -136,12 +137,13 @@ any_at q (x ∷ ds) d e (suc k, lt, is) = or_right (q x) (list_any q ds) (any_at
 
 -- ---- what stands over a basis that has those of what is cited
 
--- the bases of the types that are cited, and of the constants that are kept, lie in the items
+-- the bases of the types that are cited, and of the constants that are kept, lie in the items; those of expressions suit them
 abbrev pub IsCitedIn : (List ℕ → Bool) → Items → KeyValue → Option EntryValue → Type 0
 IsCitedIn keep items key None = Unit {0}
 IsCitedIn keep items key (Some (AType arity item basis)) = IsTypeEntry key arity item basis × IsSubset basis items
 IsCitedIn keep items key (Some (AConstant ty item basis)) = keep key.name ≡ true → IsConstantEntry key ty item basis × IsSubset basis items
 IsCitedIn keep items key (Some (ATheorem th)) = IsSubset th.basis items
+IsCitedIn keep items key (Some (ATac e bases basis)) = (suits_expr e basis ≡ true) × IsSubset basis items
 
 abbrev pub AreCitedIn : (List ℕ → Bool) → Items → Values → Type 0
 AreCitedIn keep items [] = Unit {0}
@@ -231,6 +233,7 @@ module _ (items : Items) where
         by false f g rest = rest g
     cited_types_stand ((key, Some (AConstant ty item basis)) ∷ more) all c n e = cited_types_stand more all.1 c n e
     cited_types_stand ((key, Some (ATheorem th)) ∷ more) all c n e = cited_types_stand more all.1 c n e
+    cited_types_stand ((key, Some (ATac t bases basis)) ∷ more) all c n e = cited_types_stand more all.1 c n e
 
     abbrev StandsAt : List ℕ → TypeTree → Type 0
     StandsAt c generic = (stands takes generic ≡ true) × ((pairs : List (TypeTree × List ℕ)) → has c (type_subst pairs generic) ≡ true)
@@ -256,6 +259,7 @@ module _ (items : Items) where
             subst (λ (d : List ℕ). StandsAt d g) name (subst (StandsAt key.name) same (constant_stands key ty item basis own.0 own.1))
         by false f h rest = rest h
     cited_constants_stand ((key, Some (ATheorem th)) ∷ more) all c g k e = cited_constants_stand more all.1 c g k e
+    cited_constants_stand ((key, Some (ATac t bases basis)) ∷ more) all c g k e = cited_constants_stand more all.1 c g k e
 
     -- ---- both
 

@@ -30,3 +30,4 @@ pub mod Needing
 pub mod Marks
 pub mod Runnable
 pub mod Parts
+pub mod TheoremBases

@@ -13,7 +13,7 @@ use Rattle.hol_combine.specs.Runs.{RunValue, run}
 use Rattle.hol_combine.specs.Runs as runs
 use Rattle.hol_combine.specs.Agreeing.{known, tested_of}
 use Rattle.hol_combine.proofs.Agreement.{needs_tested}
-use Rattle.hol_notation_commands.specs.Text.{LocalText, Goal, Apply, Qed, Make}
+use Rattle.hol_notation_commands.specs.Text.{LocalText, Goal, Apply, Qed, DefineTac, Make}
 use Rattle.hol_notation_tactics.specs.Text.{TacText}
 use Rattle.hol_exec.specs.Setup.{SetupValue}
 use Rattle.hol_exec.specs.ReadsValue.{ReadsValue}
@@ -59,7 +59,7 @@ module _ (names more : List (List ℕ)) where
       sym (same_run goal basis r agree) ∙ ap (run_outcome more goal basis) (sym (needs_tested setup.table names more x goal setup.turns agree))
 
   resolved_needs : (setup : SetupValue) (o : Option GoalValue) (r : ResolutionValue) → list_all (is_marked more) (resolved_outcome setup names o r).tested ≡ true → resolved_outcome setup names o r ≡ resolved_outcome setup more o r
-  resolved_needs setup o (Resolved x basis) h = applied_needs setup o x basis h
+  resolved_needs setup o (Resolved x basis readings) h = applied_needs setup o x basis h
   resolved_needs setup o (Unresolved kind arg) h = refl
 
   applying_needs : (in_proof : Bool) (setup : SetupValue) (tactic : TacText) (reads : ReadsValue) (given : LocalValue) → IsApplying in_proof setup names tactic reads given → list_all (is_marked more) given.tested ≡ true →
@@ -87,7 +87,7 @@ applied_told setup names None x basis = refl
 applied_told setup names (Some goal) x basis = run_told names goal basis (run (known setup.table names) x goal (starting setup.turns))
 
 resolved_told : (setup : SetupValue) (names : List (List ℕ)) (o : Option GoalValue) (r : ResolutionValue) → list_all (is_marked names) (resolved_outcome setup names o r).tested ≡ true
-resolved_told setup names o (Resolved x basis) = applied_told setup names o x basis
+resolved_told setup names o (Resolved x basis readings) = applied_told setup names o x basis
 resolved_told setup names o (Unresolved kind arg) = refl
 
 applying_told : (in_proof : Bool) (setup : SetupValue) (names : List (List ℕ)) (tactic : TacText) (reads : ReadsValue) (given : LocalValue) → IsApplying in_proof setup names tactic reads given → list_all (is_marked names) given.tested ≡ true
@@ -98,6 +98,7 @@ pub local_told : (setup : SetupValue) (names : List (List ℕ)) (command : Local
 local_told setup names (Goal name quotation) reads given h = ap (list_all (is_marked names)) h.1
 local_told setup names (Apply tactic) reads given h = applying_told reads.in_proof setup names tactic reads given h
 local_told setup names Qed reads given h = ap (λ (l : LocalValue). list_all (is_marked names) l.tested) h
+local_told setup names (DefineTac name tactic) reads given h = ap (list_all (is_marked names)) h.1
 local_told setup names (Make making) reads given h = ap (list_all (is_marked names)) h.1
 
 pub local_needs : (setup : SetupValue) (names more : List (List ℕ)) (command : LocalText) (reads : ReadsValue) (given : LocalValue) → IsLocalOutcome setup names command reads given → list_all (is_marked more) given.tested ≡ true →
@@ -105,4 +106,5 @@ pub local_needs : (setup : SetupValue) (names more : List (List ℕ)) (command :
 local_needs setup names more (Goal name quotation) reads given h all = h
 local_needs setup names more (Apply tactic) reads given h all = applying_needs names more reads.in_proof setup tactic reads given h all
 local_needs setup names more Qed reads given h all = h
+local_needs setup names more (DefineTac name tactic) reads given h all = h
 local_needs setup names more (Make making) reads given h all = h

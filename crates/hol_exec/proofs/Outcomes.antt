@@ -1,5 +1,5 @@
 -- What the outcomes that a state may get say of it: a step runs on the first goal.
-use Rattle.std.proofs.Common.{◌≡◌, ◌∙◌, ℕ, List, [], ◌∷◌, refl, ap, subst, Bool, true, false, cond, decimal, nat_eq}
+use Rattle.std.proofs.Common.{◌≡◌, ◌∙◌, ℕ, List, [], ◌∷◌, refl, ap, subst, Bool, true, false, cond, decimal, nat_eq, nat_lt}
 use Rattle.std.specs.Prelude.{Option, Some, None, IfSome, is_some}
 use Rattle.hol_terms.specs.Nameless.{Nameless, nameless_type}
 use Rattle.hol_notation_terms.specs.Text.{QuotationText, DefinitionText}
@@ -16,7 +16,7 @@ use Rattle.hol_theory.specs.Constants.{constant_names}
 use Rattle.hol_theory.specs.Entry.{Entries, EntryValue}
 use Rattle.hol_theory.specs.Key.{KeyValue}
 use Rattle.hol_exec.specs.Setup.{SetupValue}
-use Rattle.hol_notation_commands.specs.Text.{MakingText, NewType, NewConstant, NewAxiom, NewDefinition, NewBasicTypeDefinition, LocalText, Goal, Apply, Qed, Make, DirectText, Back, Rotate, Oops, Import, Local, Direct, TypeDefinitionText}
+use Rattle.hol_notation_commands.specs.Text.{MakingText, NewType, NewConstant, NewAxiom, NewDefinition, NewBasicTypeDefinition, LocalText, Goal, Apply, Qed, DefineTac, Make, DirectText, Back, Rotate, Oops, Import, Local, Direct, TypeDefinitionText}
 use Rattle.hol_notation_commands.specs.Reading.{ReadText, Reads, Breaks}
 use Rattle.hol_resolve.specs.Reading.{ReadingValue, WrongArity, NoTyping, LargeReading, ReadsAs, type_reading}
 use Rattle.hol_exec.specs.StateValue.{ProofValue, StateValue, EndedTheory}
@@ -34,10 +34,12 @@ use Rattle.hol_equal.specs.Applied.{rand}
 use Rattle.hol_exec.specs.Making.{UnlessTaken, taken, MakesOne, MakesConstantOf, StatesAxiom, MakesAxiomOf, MakesDefined, UnlessOpen, MakesDefinitionOf, UnlessFree, MakesTypeBy, MakesTypeOf, MakesTypeFrom, IsMade, IsMaking, formula_basis}
 use Rattle.hol_kernel.specs.Theorem.{Theorem}
 use Rattle.hol_types.specs.Tree.{TypeTree}
-use Rattle.hol_resolve.specs.Readings.{ATerm}
+use Rattle.hol_resolve.specs.Readings.{ATerm, ReadingsValue}
 use Rattle.hol_theory.proofs.Theories.{items_agree}
 use Rattle.hol_exec.specs.Standing.{first_taken}
+use Rattle.hol_combine.specs.ExprSize.{expr_size}
 use Rattle.hol_combine.specs.ExprValue.{ExprValue}
+use Rattle.hol_exec.specs.Naming.{names_expr, names_resolved, IsNaming}
 use Rattle.hol_combine.specs.Runs.{RefusalValue, DoesNotFit, LacksHyps, StopValue, TurnLimit, LargeGoal, RunValue, run}
 use Rattle.hol_combine.specs.Runs as runs
 use Rattle.hol_combine.specs.Agreeing.{known}
@@ -95,7 +97,7 @@ module _ (goal : GoalValue) (goals : List GoalValue) (basis : Items) where
   applied_first setup names (Some g) x b e = ap Some (run_first names g b (run (known setup.table names) x g (starting setup.turns)) e)
 
   resolved_first : (setup : SetupValue) (names : List (List ℕ)) (o : Option GoalValue) (r : ResolutionValue) → Leaves goal goals basis ≡ (resolved_outcome setup names o r).outcome → o ≡ Some goal
-  resolved_first setup names o (Resolved x b) e = applied_first setup names o x b e
+  resolved_first setup names o (Resolved x b readings) e = applied_first setup names o x b e
   resolved_first setup names o (Unresolved kind arg) e = absurd (cc)
 
   applying_first : (in_proof : Bool) (setup : SetupValue) (names : List (List ℕ)) (tactic : TacText) (reads : ReadsValue) (given : LocalValue) → Leaves goal goals basis ≡ given.outcome → IsApplying in_proof setup names tactic reads given → reads.goal ≡ Some goal
@@ -103,6 +105,20 @@ module _ (goal : GoalValue) (goals : List GoalValue) (basis : Items) where
       let refused : Leaves goal goals basis ≡ Refuses refusal.NoProofOpen [] = e ∙ ap (λ (l : LocalValue). l.outcome) h in
       absurd (cc)
   applying_first true setup names tactic reads given e h = resolved_first setup names reads.goal h.0 (e ∙ ap (λ (l : LocalValue). l.outcome) h.2)
+
+  -- what names an expression takes no step
+  naming_none : (in_proof : Bool) (setup : SetupValue) (name : List ℕ) (tactic : TacText) (reads : ReadsValue) → IsNaming in_proof setup name tactic reads (Leaves goal goals basis) → ⊥
+  naming_none true setup name tactic reads h = absurd (cc)
+  naming_none false setup name tactic reads h = by h.0 h.2
+    where
+      sized : (e : ExprValue) (own : Items) (readings : ReadingsValue) (b : Bool)
+          → Leaves goal goals basis ≡ cond b (Refuses refusal.TooLarge []) (names_expr setup name tactic reads.cited readings e own) → ⊥
+      sized e own readings true k = absurd (cc)
+      sized e own readings false k = absurd (cc)
+
+      by : (r : ResolutionValue) → Leaves goal goals basis ≡ names_resolved setup name tactic reads.cited r → ⊥
+      by (Resolved e own readings) k = sized e own readings (nat_lt 20000 (expr_size e)) k
+      by (Unresolved kind arg) k = absurd (cc)
 
   -- what makes types, constants, axioms and definitions takes no step
   abbrev Leaving : OutcomeValue
@@ -175,6 +191,7 @@ module _ (goal : GoalValue) (goals : List GoalValue) (basis : Items) where
   local_first setup names (Goal name q) s tested h = absurd (opening_none _ name q _ h.0)
   local_first setup names (Apply tactic) s tested h = applying_first _ setup names tactic (reads_of (Apply tactic) s) (record { outcome = Leaves goal goals basis; tested = tested }) refl h
   local_first setup names Qed s tested h = absurd (finish_none (reads_of Qed s).closing (ap (λ (l : LocalValue). l.outcome) h))
+  local_first setup names (DefineTac name tactic) s tested h = absurd (naming_none _ setup name tactic _ h.0)
   local_first setup names (Make making) s tested h = absurd (making_none _ making (reads_of (Make making) s) h.0)
 
   -- nothing that is answered from the state takes a step

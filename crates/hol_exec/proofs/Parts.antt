@@ -1,15 +1,24 @@
 -- Parts of expressions that are resolved one after the other.
-use Rattle.std.specs.Prelude.{◌≡◌, ◌<◌, ◌≤◌, ◌+◌, ℕ, zero, suc, List, [], ◌∷◌, ◌++◌, length, get_or, Result, Ok, Err, refl, string_bytes}
+use Rattle.std.specs.Prelude.{◌≡◌, ◌⊎◌, ◌<◌, ◌≤◌, ◌+◌, Option, Some, None, ℕ, zero, suc, List, [], ◌∷◌, ◌++◌, length, get_or, Result, Ok, Err, refl, string_bytes}
 use Rattle.std.specs.List.{remove}
-use Rattle.std.proofs.Common.{ap, sym, ◌∙◌, arith, drop, subst}
+use Rattle.std.proofs.Common.{ap, sym, ◌∙◌, arith, drop, subst, inl, inr}
 use Rattle.hol_terms.specs.Nameless.{Nameless}
 use Rattle.hol_notation_tactics.specs.Text.{TacText, more_tacs, tac_texts}
-use Rattle.hol_combine.specs.declared.expr.ExprNode.{ExprNode}
+use Rattle.hol_notation_tactics.specs.Text as text
+use Rattle.hol_notation_tactics.specs.TacView.{tac_of_node}
+use Rattle.hol_notation_tactics.specs.declared.tac_expr.TacExprNode.{TacExprNode}
+use Rattle.hol_notation_tactics.specs.declared.tac_expr.TacExprNode.TheVariants as node
+use Rattle.hol_notation_tactics.specs.declared.parts.Role.TheVariants.{Whole}
+use Rattle.hol_combine.specs.Chains.{Chain, Steps, Alternatives, Uses, NoChain, chain_of, last_chain}
+use Rattle.hol_combine.specs.ExprValue as expr
+use Rattle.hol_resolve.specs.Forms.{WrittenArgsValue}
+use Rattle.hol_resolve.specs.Readings.{term_at}
+use Rattle.hol_exec.specs.Callee.{CalleeValue, Registered, Defined, called}
 use Rattle.hol_combine.specs.ExprValue.{TheoremTacValue, ExprValue, ExprValues, Then, OrElse, SubgoalThen, no_exprs, more_exprs, exprs, then_all, or_else_all}
 use Rattle.hol_exec.specs.declared.resolving.unresolved.Unresolved.{Unresolved as Fault}
 use Rattle.hol_exec.specs.declared.resolving.unresolved.Unresolved.TheVariants as fault
-use Rattle.hol_exec.specs.Expr.{RefusedValue, mapped, both, ContextValue, resolved_expr, resolved_exprs}
-use Rattle.hol_exec.specs.ExprView.{IsRefusal, IsFault, IsNodeFound, IsChain, AreAlternatives}
+use Rattle.hol_exec.specs.Expr.{RefusedValue, mapped, both, ContextValue, formula, given, resolved_call, resolved_handing, resolved_expr, resolved_exprs}
+use Rattle.hol_exec.specs.ExprView.{IsRefusal, IsFault, IsFound, IsChain, AreAlternatives}
 
 -- ---- what refuses a part refuses the whole
 
@@ -102,8 +111,8 @@ append_assoc [] ys zs = refl
 append_assoc (x ∷ xs) ys zs = ap (λ (ws : List ExprValue). x ∷ ws) (append_assoc xs ys zs)
 
 -- a part by itself
-pub chain_of_one : (r : Result ExprValue RefusedValue) (old new : List ExprValue) (x : ExprValue) → r ≡ Ok x → new ≡ old ++ x ∷ [] → IsChain r old new
-chain_of_one r old new x is grown = record { first = x; more = []; added = grown; is = is }
+pub chain_of_one : (r : Result ExprValue RefusedValue) (old new : List ExprValue) (x : ExprValue) → r ≡ Ok x → new ≡ old ++ x ∷ [] → (chain_of x ≡ Steps → ⊥) → IsChain r old new
+chain_of_one r old new x is grown whole = record { first = x; more = []; added = grown; is = is; whole = whole }
 
 -- a chain, and one more
 pub chain_longer : (r s : Result ExprValue RefusedValue) (old mid new : List ExprValue) (x : ExprValue) → IsChain r old mid → s ≡ Ok x → new ≡ mid ++ x ∷ [] → IsChain (both Then r s) old new
@@ -112,10 +121,11 @@ chain_longer r s old mid new x h is grown = record {
   more = h.more ++ (x ∷ []);
   added = grown ∙ ap (λ (ws : List ExprValue). ws ++ (x ∷ [])) h.added ∙ append_assoc old (h.first ∷ h.more) (x ∷ []);
   is = both_found Then r s (then_all h.first h.more) x h.is is ∙ ap Ok (sym (then_last h.first h.more x));
+  whole = h.whole;
 }
 
-pub one_alternative : (r : Result ExprValue RefusedValue) (old new : List ExprValue) (x : ExprValue) → r ≡ Ok x → new ≡ old ++ x ∷ [] → AreAlternatives r old new
-one_alternative r old new x is grown = record { first = x; more = []; added = grown; is = is }
+pub one_alternative : (r : Result ExprValue RefusedValue) (old new : List ExprValue) (x : ExprValue) → r ≡ Ok x → new ≡ old ++ x ∷ [] → (chain_of x ≡ Alternatives → ⊥) → AreAlternatives r old new
+one_alternative r old new x is grown whole = record { first = x; more = []; added = grown; is = is; whole = whole }
 
 pub alternatives_longer : (r s : Result ExprValue RefusedValue) (old mid new : List ExprValue) (x : ExprValue) → r ≡ Ok x → mid ≡ old ++ x ∷ [] → AreAlternatives s mid new → AreAlternatives (both OrElse r s) old new
 alternatives_longer r s old mid new x is grown h = record {
@@ -123,6 +133,7 @@ alternatives_longer r s old mid new x is grown h = record {
   more = h.first ∷ h.more;
   added = h.added ∙ ap (λ (ws : List ExprValue). ws ++ (h.first ∷ h.more)) grown ∙ append_assoc old (x ∷ []) (h.first ∷ h.more);
   is = both_found OrElse r s x (or_else_all h.first h.more) is h.is;
+  whole = h.whole;
 }
 
 -- a chain of two parts or more, as the node has it
@@ -139,10 +150,124 @@ chain_node r items after rest head next h two d e f g = by h.more h.added h.is
         let others : rest ≡ more = g ∙ ap (λ (ws : List ExprValue). remove ws 0) then in
         found ∙ sym (λ i. Ok (then_all (Then (first i) (second i)) (others i)))
 
+-- its first is no such chain
+pub chain_whole : (r : Result ExprValue RefusedValue) (items : List ExprValue) (head : ExprValue) → IsChain r [] items → head ≡ get_or items 0 head → chain_of head ≡ Steps → ⊥
+chain_whole r items head h d k = h.whole (ap chain_of (sym (d ∙ ap (λ (ws : List ExprValue). get_or ws 0 head) h.added)) ∙ k)
+
+-- a chain of one part or more, as the node has it
+module _ (r : Result ExprValue RefusedValue) (items rest : List ExprValue) (next : ExprValue) (h : AreAlternatives r [] items) (d : next ≡ get_or items 0 next) (e : rest ≡ remove items 0) where
+  next_first : next ≡ h.first
+  next_first = d ∙ ap (λ (ws : List ExprValue). get_or ws 0 next) h.added
+
+  rest_more : rest ≡ h.more
+  rest_more = e ∙ ap (λ (ws : List ExprValue). remove ws 0) h.added
+
+  pub alternatives_node : r ≡ Ok (or_else_all next rest)
+  alternatives_node = h.is ∙ sym (λ i. Ok (or_else_all (next_first i) (rest_more i)))
+
+  pub alternatives_whole : last_chain next rest ≡ Alternatives → ⊥
+  alternatives_whole k = h.whole (sym (λ i. last_chain (next_first i) (rest_more i)) ∙ k)
+
 -- a formula that is found, and what it is handed to
-pub formula_handed : (r : Result Nameless RefusedValue) (s : Result TheoremTacValue RefusedValue) (p : Nameless) (result : Result ExprNode Fault) → r ≡ Ok p → IsNodeFound (mapped (SubgoalThen p) s) result → IsNodeFound (both SubgoalThen r s) result
-formula_handed r s p result e h = subst (λ (w : Result Nameless RefusedValue). IsNodeFound (both SubgoalThen w s) result) (sym e) h
+pub formula_handed : (r : Result Nameless RefusedValue) (s : Result TheoremTacValue RefusedValue) (p : Nameless) (result : Result ExprValue Fault) → r ≡ Ok p → IsFound (mapped (SubgoalThen p) s) result → IsFound (both SubgoalThen r s) result
+formula_handed r s p result e h = subst (λ (w : Result Nameless RefusedValue). IsFound (both SubgoalThen w s) result) (sym e) h
 
 -- what is found of an expression is so of an equal one
-pub node_at : (context : ContextValue) (t u : TacText) (result : Result ExprNode Fault) → t ≡ u → IsNodeFound (resolved_expr context t) result → IsNodeFound (resolved_expr context u) result
-node_at context t u result e h = subst (λ (x : TacText). IsNodeFound (resolved_expr context x) result) e h
+pub found_at : (context : ContextValue) (t u : TacText) (result : Result ExprValue Fault) → t ≡ u → IsFound (resolved_expr context t) result → IsFound (resolved_expr context u) result
+found_at context t u result e h = subst (λ (x : TacText). IsFound (resolved_expr context x) result) e h
+
+-- ---- which chain is resolved
+
+abbrev text_chain : TacText → Chain
+text_chain (text.Call call) = NoChain
+text_chain (text.Then t u) = Steps
+text_chain (text.ThenL t us) = NoChain
+text_chain (text.OrElse t u) = Alternatives
+text_chain (text.Repeat t) = NoChain
+text_chain (text.Try t) = NoChain
+text_chain (text.Changed t) = NoChain
+text_chain (text.Every ts) = NoChain
+text_chain (text.First ts) = NoChain
+text_chain (text.Replicate n t) = NoChain
+text_chain (text.DischThen call) = NoChain
+text_chain (text.PopAssum call) = NoChain
+text_chain (text.FirstAssum call) = NoChain
+text_chain (text.SubgoalThen p call) = NoChain
+
+-- it is the one that is written, or a use
+abbrev Chained : Chain → Result ExprValue RefusedValue → Type 0
+Chained k (Ok e) = (chain_of e ≡ Uses) ⊎ (chain_of e ≡ k)
+Chained k (Err r) = Unit {0}
+
+mapped_chained : {X : Type 0} (k : Chain) (f : X → ExprValue) → ((x : X) → chain_of (f x) ≡ k) → (r : Result X RefusedValue) → Chained k (mapped f r)
+mapped_chained k f h (Ok x) = inr (h x)
+mapped_chained k f h (Err e) = tt
+
+both_chained : {X Y : Type 0} (k : Chain) (f : X → Y → ExprValue) → ((x : X) (y : Y) → chain_of (f x y) ≡ k) → (r : Result X RefusedValue) (s : Result Y RefusedValue) → Chained k (both f r s)
+both_chained k f h (Ok x) s = mapped_chained k (f x) (h x) s
+both_chained k f h (Err e) s = tt
+
+module _ (context : ContextValue) where
+  call_chained : (name : List ℕ) (o : Option (CalleeValue × WrittenArgsValue)) → Chained NoChain (resolved_call context name o)
+  call_chained name None = tt
+  call_chained name (Some (Registered index code, w)) = mapped_chained NoChain _ (λ a. refl) (given context name w)
+  call_chained name (Some (Defined e bases, w)) = inl refl
+
+  chained : (t : TacText) → Chained (text_chain t) (resolved_expr context t)
+  chained (text.Call call) = call_chained call.name (called context.table Whole call context.cited)
+  chained (text.Then t u) = both_chained Steps Then (λ x y. refl) (resolved_expr context t) (resolved_expr context u)
+  chained (text.ThenL t us) = both_chained NoChain expr.ThenL (λ x y. refl) (resolved_expr context t) (resolved_exprs context us)
+  chained (text.OrElse t u) = both_chained Alternatives OrElse (λ x y. refl) (resolved_expr context t) (resolved_expr context u)
+  chained (text.Repeat t) = mapped_chained NoChain expr.Repeat (λ x. refl) (resolved_expr context t)
+  chained (text.Try t) = mapped_chained NoChain expr.Try (λ x. refl) (resolved_expr context t)
+  chained (text.Changed t) = mapped_chained NoChain expr.Changed (λ x. refl) (resolved_expr context t)
+  chained (text.Every ts) = mapped_chained NoChain expr.Every (λ x. refl) (resolved_exprs context ts)
+  chained (text.First ts) = mapped_chained NoChain expr.First (λ x. refl) (resolved_exprs context ts)
+  chained (text.Replicate n t) = mapped_chained NoChain (expr.Replicate n) (λ x. refl) (resolved_expr context t)
+  chained (text.DischThen call) = mapped_chained NoChain expr.DischThen (λ x. refl) (resolved_handing context call)
+  chained (text.PopAssum call) = mapped_chained NoChain expr.PopAssum (λ x. refl) (resolved_handing context call)
+  chained (text.FirstAssum call) = mapped_chained NoChain expr.FirstAssum (λ x. refl) (resolved_handing context call)
+  chained (text.SubgoalThen p call) = both_chained NoChain SubgoalThen (λ x y. refl) (formula p.place (term_at context.readings p.place)) (resolved_handing context call)
+
+  -- what is written as no chain of a kind is resolved to none of it
+  other_chain : (k : Chain) (t : TacText) (e : ExprValue) → resolved_expr context t ≡ Ok e → (Uses ≡ k → ⊥) → (text_chain t ≡ k → ⊥) → chain_of e ≡ k → ⊥
+  other_chain k t e found never not is =
+      elim (subst (Chained (text_chain t)) found (chained t)) [ inl u ↦ never (sym u ∙ is) | inr own ↦ not (sym own ∙ is) ]
+
+  pub no_steps : (n : TacExprNode) (t : TacText) (e : ExprValue) → tac_of_node n ≡ t → resolved_expr context t ≡ Ok e → ((a b : TacText) → n ≡ node.Then a b → ⊥) → chain_of e ≡ Steps → ⊥
+  no_steps n t e is found not k = other_chain Steps t e found (λ u. absurd (cc)) (λ own. by n not (ap text_chain is ∙ own)) k
+    where
+      by : (m : TacExprNode) → ((a b : TacText) → m ≡ node.Then a b → ⊥) → text_chain (tac_of_node m) ≡ Steps → ⊥
+      by (node.Call call) never own = absurd (cc)
+      by (node.Then a b) never own = never a b refl
+      by (node.ThenL a bs) never own = absurd (cc)
+      by (node.OrElse a b) never own = absurd (cc)
+      by (node.Repeat a) never own = absurd (cc)
+      by (node.Try a) never own = absurd (cc)
+      by (node.Changed a) never own = absurd (cc)
+      by (node.Every xs) never own = absurd (cc)
+      by (node.First xs) never own = absurd (cc)
+      by (node.Replicate n a) never own = absurd (cc)
+      by (node.DischThen call) never own = absurd (cc)
+      by (node.PopAssum call) never own = absurd (cc)
+      by (node.FirstAssum call) never own = absurd (cc)
+      by (node.SubgoalThen p call) never own = absurd (cc)
+
+  pub no_alternatives : (n : TacExprNode) (t : TacText) (e : ExprValue) → tac_of_node n ≡ t → resolved_expr context t ≡ Ok e → ((a b : TacText) → n ≡ node.OrElse a b → ⊥) → chain_of e ≡ Alternatives → ⊥
+  no_alternatives n t e is found not k = other_chain Alternatives t e found (λ u. absurd (cc)) (λ own. by n not (ap text_chain is ∙ own)) k
+    where
+      by : (m : TacExprNode) → ((a b : TacText) → m ≡ node.OrElse a b → ⊥) → text_chain (tac_of_node m) ≡ Alternatives → ⊥
+      by (node.Call call) never own = absurd (cc)
+      by (node.Then a b) never own = absurd (cc)
+      by (node.ThenL a bs) never own = absurd (cc)
+      by (node.OrElse a b) never own = never a b refl
+      by (node.Repeat a) never own = absurd (cc)
+      by (node.Try a) never own = absurd (cc)
+      by (node.Changed a) never own = absurd (cc)
+      by (node.Every xs) never own = absurd (cc)
+      by (node.First xs) never own = absurd (cc)
+      by (node.Replicate n a) never own = absurd (cc)
+      by (node.DischThen call) never own = absurd (cc)
+      by (node.PopAssum call) never own = absurd (cc)
+      by (node.FirstAssum call) never own = absurd (cc)
+      by (node.SubgoalThen p call) never own = absurd (cc)

@@ -32,7 +32,7 @@ use Rattle.hol_resolve.proofs.Standing.{readings_are_over}
 use Rattle.hol_theory.specs.declared.key.Kind.{Kind}
 use Rattle.hol_theory.specs.declared.key.Kind.TheVariants as key_kind
 use Rattle.hol_theory.specs.Key.{KeyValue}
-use Rattle.hol_theory.specs.Entry.{EntryValue, AType, AConstant, ATheorem, Entries, entry_at}
+use Rattle.hol_theory.specs.Entry.{EntryValue, AType, AConstant, ATheorem, Entries, entry_at, ATac}
 use Rattle.hol_theory.specs.Theory.{IsTheory}
 use Rattle.hol_exec.specs.Occurring.{constant_occurs}
 use Rattle.hol_exec.specs.ReadsValue.{Values}
@@ -56,6 +56,7 @@ module _ (readings : ReadingsValue) where
       by true = subset_left items basis
       by false = within_itself items
   value_grows items key (Some (ATheorem th)) = subset_left items th.basis
+  value_grows items key (Some (ATac e bases basis)) = subset_left items basis
 
   values_grow : (cited : Values) (items : Items) → IsSubset items (with_values readings items cited)
   values_grow [] items = within_itself items
@@ -77,6 +78,8 @@ module _ (readings : ReadingsValue) where
           (subst (λ (b : Bool). IsSubset (cond b (set.union items basis) items) all) k h),
     )
     value_cited items all key (Some (ATheorem th)) e h = subset_trans th.basis (set.union items th.basis) all (subset_right items th.basis) h
+    value_cited items all key (Some (ATac x bases basis)) e h =
+        ((entry_is es key (ATac x bases basis) t (sym e)).suits, subset_trans basis (set.union items basis) all (subset_right items basis) h)
 
     values_cited : (cited : Values) (items : Items) → StandIn es cited → AreCitedIn keep (with_values readings items cited) cited
     values_cited [] items h = tt
@@ -98,6 +101,7 @@ theorem_within items name (Some th) more h rest = (h th refl, rest)
 pub prelude_within : (items : Items) (kind : Kind) (name : List ℕ) (th : Theorem) → prelude_theorem_at kind name ≡ Some th → IsSubset th.basis items
 prelude_within items key_kind.Type name th e = absurd (cc)
 prelude_within items key_kind.Constant name th e = absurd (cc)
+prelude_within items key_kind.Tac name th e = absurd (cc)
 prelude_within items key_kind.Theorem name th e = by (statement_in prelude_statements name) e
   where
     by : (o : Option Named) → option_map stated o ≡ Some th → IsSubset th.basis items
@@ -111,6 +115,7 @@ theorems_within keep items ((key, None) ∷ more) all =
 theorems_within keep items ((key, Some (AType arity item basis)) ∷ more) all = theorems_within keep items more all.1
 theorems_within keep items ((key, Some (AConstant ty item basis)) ∷ more) all = theorems_within keep items more all.1
 theorems_within keep items ((key, Some (ATheorem th)) ∷ more) all = (all.0, theorems_within keep items more all.1)
+theorems_within keep items ((key, Some (ATac e bases basis)) ∷ more) all = theorems_within keep items more all.1
 
 -- ---- quotations
 

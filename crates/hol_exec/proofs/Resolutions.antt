@@ -1,5 +1,5 @@
 -- What is written, resolved, from the steps of resolving.
-use Rattle.std.specs.Prelude.{◌≡◌, ◌==◌, true, ℕ, List, [], ◌∷◌, length, Some, None, Result, Ok, Err, IfOk, string_bytes}
+use Rattle.std.specs.Prelude.{◌≡◌, ◌==◌, true, ℕ, List, [], ◌∷◌, length, Option, Some, None, Result, Ok, Err, IfOk, string_bytes}
 use Rattle.std.proofs.Common.{ap, sym, ◌∙◌, subst, arith}
 use Rattle.hol_kernel.specs.Items.{Items}
 use Rattle.hol_notation_tactics.specs.Parts.{parts_of, calls_in}
@@ -10,13 +10,14 @@ use Rattle.hol_resolve.specs.Signature.{SignatureValue}
 use Rattle.hol_resolve.specs.Quotations.{quotations_in}
 use Rattle.hol_resolve.specs.Readings.{ReadingsValue, Attempts, AreAttempts, AreRead}
 use Rattle.hol_exec.specs.declared.reports.refusal.RefusalKind.TheVariants as refusal
+use Rattle.hol_theory.specs.Key.{KeyValue}
 use Rattle.hol_exec.specs.Setup.{SetupValue}
 use Rattle.hol_exec.specs.Signature.{signature_of}
 use Rattle.hol_exec.specs.ReadsValue.{Values}
 use Rattle.hol_exec.specs.Resolved.{cited_theorems, occurs_in, resolved_basis}
 use Rattle.hol_exec.specs.Standing.{first_unknown}
 use Rattle.hol_combine.specs.ExprValue.{ExprValue}
-use Rattle.hol_exec.specs.Expr.{RefusedValue, ResolutionValue, Resolved, Unresolved, first_unfit, resolved_expr, refused_resolution, resolution_of, resolved_formulas, resolved_read, IsResolvedFitting, IsResolution}
+use Rattle.hol_exec.specs.Expr.{RefusedValue, ResolutionValue, Resolved, Unresolved, first_unfit, resolved_expr, refused_resolution, resolution_of, resolved_untaken, resolved_read, IsResolvedFitting, IsResolution}
 use Rattle.hol_exec.specs.ExprView.{resolution_value, IsRefusal, IsFault, IsUnresolved}
 use Rattle.hol_exec.specs.declared.resolving.resolution.Resolution.{Resolution}
 use Rattle.hol_exec.specs.declared.resolving.unresolved.Unresolved.{Unresolved as Fault}
@@ -38,37 +39,37 @@ pub none_read : (over other : SignatureValue) (quoted : List AnyQuotation) (read
 none_read over other [] read e h = (h.0, none_attempted over other h.0 h.1, h.2)
 none_read over other (q ∷ quoted) read e h = absurd (omega (arith, (Decides-eqb (length (q ∷ quoted)) 0).0 (sym e)))
 
-module _ (setup : SetupValue) (cited : Values) where
+module _ (setup : SetupValue) (taken : Option KeyValue) (cited : Values) where
   module _ (tactic : TacText) where
-    pub unknown_theorem : (name : List ℕ) (r : ResolutionValue) → first_unknown cited ≡ Some name → r ≡ Unresolved refusal.UnknownTheorem name → IsResolution setup tactic cited r
+    pub unknown_theorem : (name : List ℕ) (r : ResolutionValue) → first_unknown cited ≡ Some name → r ≡ Unresolved refusal.UnknownTheorem name → IsResolution setup taken tactic cited r
     unknown_theorem name r e f = rw e f
 
-    pub unknown_tac : (name : List ℕ) (r : ResolutionValue) → first_unknown cited ≡ None → first_unfit setup (calls_in (parts_of tactic)) cited ≡ Some name → r ≡ Unresolved refusal.UnknownTac name → IsResolution setup tactic cited r
+    pub unknown_tac : (name : List ℕ) (r : ResolutionValue) → first_unknown cited ≡ None → first_unfit setup (calls_in (parts_of tactic)) cited ≡ Some name → r ≡ Unresolved refusal.UnknownTac name → IsResolution setup taken tactic cited r
     unknown_tac name r e f g = rw (e, f) g
 
-    pub fitting : (r : ResolutionValue) → first_unknown cited ≡ None → first_unfit setup (calls_in (parts_of tactic)) cited ≡ None → IsResolvedFitting setup tactic cited r → IsResolution setup tactic cited r
+    pub fitting : (r : ResolutionValue) → first_unknown cited ≡ None → first_unfit setup (calls_in (parts_of tactic)) cited ≡ None → IsResolvedFitting setup taken tactic cited r → IsResolution setup taken tactic cited r
     fitting r e f h = rw (e, f) h
 
   -- ---- past the readings
 
   pub past_readings : (tactic : TacText) (over : SignatureValue) (quoted : List AnyQuotation) (own read : Result ReadingsValue Refusal) (r : ResolutionValue) → over ≡ signature_of cited → quoted ≡ quotations_in (parts_of tactic)
-      → AreRead over quoted own → own ≡ read → r ≡ resolved_read setup tactic cited read → IsResolvedFitting setup tactic cited r
+      → AreRead over quoted own → own ≡ read → r ≡ resolved_read setup taken tactic cited read → IsResolvedFitting setup taken tactic cited r
   past_readings tactic over quoted own read r e f h same is =
       (read, subst (λ (w : Result ReadingsValue Refusal). AreRead (signature_of cited) (quotations_in (parts_of tactic)) w) same (rw (e, f) at h), is)
 
-  -- ---- past the formulas
+-- ---- past the formulas, and a key that is taken
 
-  module _ (tactic : TacText) (readings : ReadingsValue) where
-    abbrev on : Items → ResolutionValue
-    on basis = resolution_of basis (resolved_expr (record { table = setup.table; cited = cited; readings = readings; basis = basis }) tactic)
+module _ (setup : SetupValue) (cited : Values) (tactic : TacText) (readings : ReadingsValue) where
+  abbrev on : Items → ResolutionValue
+  on basis = resolution_of basis readings (resolved_expr (record { table = setup.table; cited = cited; readings = readings; basis = basis }) tactic)
 
-    pub formulas_found : (basis : Items) (e : ExprValue) → basis ≡ resolved_basis cited readings → resolved_expr (record { table = setup.table; cited = cited; readings = readings; basis = basis }) tactic ≡ Ok e →
-        Resolved e basis ≡ resolved_formulas setup tactic cited readings None
-    formulas_found basis e is found = sym (ap (resolution_of basis) found) ∙ ap on is
+  pub untaken_found : (basis : Items) (e : ExprValue) → basis ≡ resolved_basis cited readings → resolved_expr (record { table = setup.table; cited = cited; readings = readings; basis = basis }) tactic ≡ Ok e →
+      Resolved e basis readings ≡ resolved_untaken setup None tactic cited readings
+  untaken_found basis e is found = sym (ap (resolution_of basis readings) found) ∙ ap on is
 
-    pub formulas_refused : (basis : Items) (refused : RefusedValue) → basis ≡ resolved_basis cited readings → resolved_expr (record { table = setup.table; cited = cited; readings = readings; basis = basis }) tactic ≡ Err refused →
-        refused_resolution refused ≡ resolved_formulas setup tactic cited readings None
-    formulas_refused basis refused is found = sym (ap (resolution_of basis) found) ∙ ap on is
+  pub untaken_refused : (basis : Items) (refused : RefusedValue) → basis ≡ resolved_basis cited readings → resolved_expr (record { table = setup.table; cited = cited; readings = readings; basis = basis }) tactic ≡ Err refused →
+      refused_resolution refused ≡ resolved_untaken setup None tactic cited readings
+  untaken_refused basis refused is found = sym (ap (resolution_of basis readings) found) ∙ ap on is
 
 -- what is resolved by
 pub is_context : (cited made : Values) (readings : ReadingsValue) (basis : Items) (theorems : CitedValue) → AreOfTheory cited made → basis ≡ resolved_basis cited readings → theorems ≡ cited_theorems cited → AreWithin basis theorems

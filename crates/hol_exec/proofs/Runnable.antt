@@ -1,8 +1,8 @@
--- What is resolved can be run: its calls are of registered functions, and the basis suits what they are given.
-use Rattle.std.specs.Prelude.{◌≡◌, ◌<◌, ℕ, List, Bool, true, false, cond, nat_lt, [], length, decimal, Option, Some, None, is_some, Result, Ok, Err, refl}
+-- What is resolved can be run: the basis suits what its calls are given.
+use Rattle.std.specs.Prelude.{◌≡◌, ℕ, List, Bool, true, false, cond, [], ◌∷◌, slice_get, decimal, Option, Some, None, is_some, Result, Ok, Err, refl}
 use Rattle.std.specs.Option.{option_map, option_and_then}
 use Rattle.std.proofs.Common.{ap, ◌∙◌, subst}
-use Rattle.std.proofs.lemmas.Bool.{and_from, lt-ltb}
+use Rattle.std.proofs.lemmas.Bool.{and_from}
 use Rattle.hol_terms.specs.Nameless.{Nameless, nameless_type}
 use Rattle.hol_formulas.specs.Equation.{bool_type}
 use Rattle.hol_kernel.specs.Items.{Items}
@@ -15,7 +15,7 @@ use Rattle.hol_just.specs.Answering.{suits}
 use Rattle.hol_just.specs.Justifies.{holds_given}
 use Rattle.hol_combine.specs.ExprValue.{CallValue, TheoremTacValue, ExprValue, ExprValues, more_exprs}
 use Rattle.hol_combine.specs.ExprValue as expr
-use Rattle.hol_combine.specs.Suits.{all_calls, all_calls_of, written, written_args, by_subgoal}
+use Rattle.hol_combine.specs.Suits.{all_calls, all_calls_of, written, written_args, by_subgoal, suits_expr}
 use Rattle.hol_resolve.specs.Over.{AreOver}
 use Rattle.hol_resolve.specs.Readings.{term_at}
 use Rattle.hol_resolve.specs.Steps.{IsTermOver}
@@ -28,9 +28,13 @@ use Rattle.hol_notation_tactics.specs.declared.parts.Role.TheVariants.{Whole, Th
 use Rattle.hol_exec.specs.declared.reports.refusal.RefusalKind.TheVariants as refusal
 use Rattle.hol_exec.specs.Resolved.{cited_theorems}
 use Rattle.hol_exec.specs.Expr.{RefusedValue, ContextValue, mapped, both, named_result, term_before, formula, given, resolved_call, resolved_theorem_tac, resolved_whole, resolved_handing, resolved_expr, resolved_exprs}
-use Rattle.hol_exec.specs.Callee.{CalleeValue, Registered, kind_of, kind_for, named, fitting, registered, called}
-use Rattle.hol_exec.specs.Valid.{IsRunnableExpr}
-use Rattle.hol_exec.proofs.Rows.{registered_within}
+use Rattle.hol_exec.specs.Callee.{CalleeValue, Registered, Defined, kind_of, kind_for, at_row, value_at, expression_in, named, fitting, registered, called}
+use Rattle.hol_exec.specs.ReadsValue.{Values}
+use Rattle.hol_exec.proofs.Known.{IsCitedIn, AreCitedIn}
+use Rattle.hol_exec.proofs.Suited.{suits_larger}
+use Rattle.hol_registry.specs.Table.{index_of}
+use Rattle.hol_theory.specs.Key.{KeyValue, key_eq, tac_key}
+use Rattle.hol_theory.specs.Entry.{EntryValue, AType, AConstant, ATheorem, ATac}
 
 -- what is resolved, if anything is, has the property
 abbrev Each : {X : Type 0} → (X → Type 0) → Result X RefusedValue → Type 0
@@ -55,9 +59,6 @@ bool_over basis p e h = by (is_known basis p) refl h
 -- ---- a test of all calls
 
 module _ (context : ContextValue) (test : CallValue → Bool) (IsGood : Nameless → Type 0) where
-  abbrev Passes : CallValue → Type 0
-  Passes call = test call ≡ true
-
   abbrev PassesWritten : TheoremTacValue → Type 0
   PassesWritten tac = test (written tac) ≡ true
 
@@ -68,13 +69,13 @@ module _ (context : ContextValue) (test : CallValue → Bool) (IsGood : Nameless
   EachPasses ts = all_calls_of test ts ≡ true
 
   module _
-      (whole : (call : CallText) → Each Passes (resolved_whole context call))
+      (whole : (call : CallText) → Each AllPass (resolved_whole context call))
       (handing : (call : CallText) → Each PassesWritten (resolved_handing context call))
       (formulas : (place : ℕ) → Each IsGood (formula place (term_at context.readings place)))
       (subgoal : (p : Nameless) (tac : TheoremTacValue) → IsGood p → PassesWritten tac → test (by_subgoal p tac) ≡ true) where
     mutual
       all_pass : (t : TacText) → Each AllPass (resolved_expr context t)
-      all_pass (Call call) = of_mapped Passes AllPass expr.Call (λ c h. h) (resolved_whole context call) (whole call)
+      all_pass (Call call) = whole call
       all_pass (Then t u) =
           of_both AllPass AllPass AllPass expr.Then (λ x y. and_from (all_calls test x) (all_calls test y)) (resolved_expr context t) (resolved_expr context u) (all_pass t) (all_pass u)
       all_pass (ThenL t us) =
@@ -99,53 +100,63 @@ module _ (context : ContextValue) (test : CallValue → Bool) (IsGood : Nameless
       each_passes (more_tacs t ts) =
           of_both AllPass EachPasses EachPasses more_exprs (λ x y. and_from (all_calls test x) (all_calls_of test y)) (resolved_expr context t) (resolved_exprs context ts) (all_pass t) (each_passes ts)
 
--- ---- indices
+-- ---- expressions that were named
 
-module _ (context : ContextValue) where
-  abbrev rows : ℕ
-  rows = length context.table
+-- what is registered is no expression
+registered_only : (name : List ℕ) (table : List (List ℕ × TacCode)) (e : ExprValue) (bases : List Items) → registered name table ≡ Some (Defined e bases) → ⊥
+registered_only name table e bases h = by (index_of name table) h
+  where
+    at : (k : ℕ) (o : Option (List ℕ × TacCode)) → at_row k o ≡ Some (Defined e bases) → ⊥
+    at k None h = absurd (cc)
+    at k (Some row) h = absurd (cc)
 
-  called_within : (role : Role) (call : CallText) (index : ℕ) (code : TacCode) (w : WrittenArgsValue) → called context.table role call context.cited ≡ Some (Registered index code, w) → index < rows
-  called_within role call index code w e = by (registered call.name context.table) refl e
+    by : (o : Option ℕ) → option_and_then (λ index. at_row index (slice_get table index)) o ≡ Some (Defined e bases) → ⊥
+    by None h = absurd (cc)
+    by (Some k) h = at k (slice_get table k) h
+
+module _ (keep : List ℕ → Bool) (items : Items) where
+  in_value : (key : KeyValue) (o : Option EntryValue) (e : ExprValue) (bases : List Items) → IsCitedIn keep items key o → expression_in o ≡ Some (Defined e bases) → suits_expr e items ≡ true
+  in_value key None e bases all h = absurd (cc)
+  in_value key (Some (AType arity item basis)) e bases all h = absurd (cc)
+  in_value key (Some (AConstant ty item basis)) e bases all h = absurd (cc)
+  in_value key (Some (ATheorem th)) e bases all h = absurd (cc)
+  in_value key (Some (ATac x own basis)) e bases all h =
+      let same : x ≡ e = cc in
+      suits_larger e basis items all.1 (subst (λ (y : ExprValue). suits_expr y basis ≡ true) same all.0)
+
+  in_values : (key : KeyValue) (cited : Values) (e : ExprValue) (bases : List Items) → AreCitedIn keep items cited → expression_in (value_at key cited) ≡ Some (Defined e bases) → suits_expr e items ≡ true
+  in_values key [] e bases all h = absurd (cc)
+  in_values key ((k, value) ∷ more) e bases all h = by (key_eq key k) h (in_values key more e bases all.1)
+    where
+      by : (b : Bool) → expression_in (cond b value (value_at key more)) ≡ Some (Defined e bases) → (expression_in (value_at key more) ≡ Some (Defined e bases) → suits_expr e items ≡ true) → suits_expr e items ≡ true
+      by true h rest = in_value k value e bases all.0 h
+      by false h rest = rest h
+
+  -- an expression that is called suits the items
+  called_suited : (table : List (List ℕ × TacCode)) (role : Role) (call : CallText) (cited : Values) (e : ExprValue) (bases : List Items) (w : WrittenArgsValue) → AreCitedIn keep items cited →
+      called table role call cited ≡ Some (Defined e bases, w) → suits_expr e items ≡ true
+  called_suited table role call cited e bases w all h = by (registered call.name table) refl h
     where
       first : CalleeValue → Option (CalleeValue × WrittenArgsValue) → CalleeValue
       first c None = c
       first c (Some found) = found.0
 
-      with : (c : CalleeValue) (o : Option WrittenArgsValue) → option_map {U = CalleeValue × WrittenArgsValue} (λ (x : WrittenArgsValue). (c, x)) o ≡ Some (Registered index code, w) → c ≡ Registered index code
-      with c None e = absurd (cc)
-      with c (Some x) e = ap (first c) e
+      with : (c : CalleeValue) (o : Option WrittenArgsValue) → option_map {U = CalleeValue × WrittenArgsValue} (λ (x : WrittenArgsValue). (c, x)) o ≡ Some (Defined e bases, w) → c ≡ Defined e bases
+      with c None h = absurd (cc)
+      with c (Some x) h = ap (first c) h
 
-      by : (o : Option CalleeValue) → registered call.name context.table ≡ o → fitting (named call.name o context.cited) role call.arguments ≡ Some (Registered index code, w) → index < rows
-      by None f e = absurd (cc)
-      by (Some c) f e = registered_within call.name context.table index code (f ∙ ap Some (with c (option_and_then (λ kind. written_as kind call.arguments) (kind_for role (kind_of c))) e))
+      fits : (o : Option CalleeValue) → fitting o role call.arguments ≡ Some (Defined e bases, w) → o ≡ Some (Defined e bases)
+      fits None h = absurd (cc)
+      fits (Some c) h = ap Some (with c (option_and_then (λ kind. written_as kind call.arguments) (kind_for role (kind_of c))) h)
 
-  abbrev IsIndex : CallValue → Bool
-  IsIndex call = nat_lt call.index rows
+      by : (o : Option CalleeValue) → registered call.name table ≡ o → fitting (named call.name o cited) role call.arguments ≡ Some (Defined e bases, w) → suits_expr e items ≡ true
+      by None f h = in_values (tac_key call.name) cited e bases all (fits (expression_in (value_at (tac_key call.name) cited)) h)
+      by (Some c) f h = absurd (registered_only call.name table e bases (f ∙ fits (Some c) h))
 
-  any_given : (r : Result TacArgsValue RefusedValue) → Each (λ a. Unit {0}) r
-  any_given (Ok a) = tt
-  any_given (Err x) = tt
+-- ---- the basis
 
-  whole_index : (call : CallText) → Each (λ c. IsIndex c ≡ true) (resolved_whole context call)
-  whole_index call = by (called context.table Whole call context.cited) refl
-    where
-      by : (o : Option (CalleeValue × WrittenArgsValue)) → called context.table Whole call context.cited ≡ o → Each (λ c. IsIndex c ≡ true) (resolved_call context call.name o)
-      by None e = tt
-      by (Some (Registered index code, w)) e =
-          of_mapped (λ a. Unit {0}) (λ c. IsIndex c ≡ true) _ (λ a h. lt-ltb index rows (called_within Whole call index code w e)) (given context call.name w) (any_given (given context call.name w))
-
-  handing_index : (call : CallText) → Each (λ tac. IsIndex (written tac) ≡ true) (resolved_handing context call)
-  handing_index call = by (called context.table TheoremTactic call context.cited) refl
-    where
-      by : (o : Option (CalleeValue × WrittenArgsValue)) → called context.table TheoremTactic call context.cited ≡ o → Each (λ tac. IsIndex (written tac) ≡ true) (resolved_theorem_tac context call.name o)
-      by None e = tt
-      by (Some (Registered index code, w)) e =
-          of_mapped (λ a. Unit {0}) (λ tac. IsIndex (written tac) ≡ true) _ (λ a h. lt-ltb index rows (called_within TheoremTactic call index code w e)) (given context call.name w) (any_given (given context call.name w))
-
-  -- ---- the basis
-
-  module _ (over : AreOver context.basis context.readings) where
+module _ (context : ContextValue) where
+  module _ (keep : List ℕ → Bool) (cited : AreCitedIn keep context.basis context.cited) (over : AreOver context.basis context.readings) where
     abbrev IsSuited : CallValue → Bool
     IsSuited call = suits call.args context.basis
 
@@ -156,12 +167,13 @@ module _ (context : ContextValue) where
         by (Ok a) h = h
         by (Err x) h = tt
 
-    whole_suited : (call : CallText) → Each (λ c. IsSuited c ≡ true) (resolved_whole context call)
-    whole_suited call = by (called context.table Whole call context.cited)
+    whole_suited : (call : CallText) → Each (λ e. all_calls IsSuited e ≡ true) (resolved_whole context call)
+    whole_suited call = by (called context.table Whole call context.cited) refl
       where
-        by : (o : Option (CalleeValue × WrittenArgsValue)) → Each (λ c. IsSuited c ≡ true) (resolved_call context call.name o)
-        by None = tt
-        by (Some (Registered index code, w)) = of_mapped (Suits context.basis) (λ c. IsSuited c ≡ true) _ (λ a h. h) (given context call.name w) (all_suit call.name w)
+        by : (o : Option (CalleeValue × WrittenArgsValue)) → called context.table Whole call context.cited ≡ o → Each (λ e. all_calls IsSuited e ≡ true) (resolved_call context call.name o)
+        by None is = tt
+        by (Some (Registered index code, w)) is = of_mapped (Suits context.basis) (λ e. all_calls IsSuited e ≡ true) _ (λ a h. h) (given context call.name w) (all_suit call.name w)
+        by (Some (Defined e bases, w)) is = called_suited keep context.basis context.table Whole call context.cited e bases w cited is
 
     before : (a : TacArgsValue) → Suits context.basis a → suits (written_args (term_before a)) context.basis ≡ true
     before Nothing h = refl
@@ -177,6 +189,7 @@ module _ (context : ContextValue) where
         by : (o : Option (CalleeValue × WrittenArgsValue)) → Each (λ tac. IsSuited (written tac) ≡ true) (resolved_theorem_tac context call.name o)
         by None = tt
         by (Some (Registered index code, w)) = of_mapped (Suits context.basis) (λ tac. IsSuited (written tac) ≡ true) _ before (given context call.name w) (all_suit call.name w)
+        by (Some (Defined e bases, w)) = tt
 
     abbrev IsFormula : Nameless → Type 0
     IsFormula p = holds_given (assume p) context.basis ≡ true
@@ -192,21 +205,6 @@ module _ (context : ContextValue) where
         by None h = tt
         by (Some p) h = typed p (is_type_at (nameless_type [] p) bool_type) refl h
 
-    runs : (t : TacText) → Each (IsRunnableExpr context.table context.basis) (resolved_expr context t)
-    runs t = by (resolved_expr context t)
-        (all_pass context IsIndex (λ p. Unit {0}) whole_index handing_index any (λ p tac g h. h) t)
-        (all_pass context IsSuited IsFormula whole_suited handing_suited formula_suited (λ p tac g h. g) t)
-      where
-        of_any : (r : Result Nameless RefusedValue) → Each (λ p. Unit {0}) r
-        of_any (Ok p) = tt
-        of_any (Err x) = tt
-
-        any : (place : ℕ) → Each (λ p. Unit {0}) (formula place (term_at context.readings place))
-        any place = of_any (formula place (term_at context.readings place))
-
-        by : (r : Result ExprValue RefusedValue) → Each (λ e. all_calls IsIndex e ≡ true) r → Each (λ e. all_calls IsSuited e ≡ true) r → Each (IsRunnableExpr context.table context.basis) r
-        by (Ok e) h k = record { indices = h; suits = k }
-        by (Err x) h k = tt
-
-    pub runs_found : (t : TacText) (e : ExprValue) → resolved_expr context t ≡ Ok e → IsRunnableExpr context.table context.basis e
-    runs_found t e found = subst (Each (IsRunnableExpr context.table context.basis)) found (runs t)
+    pub runs_found : (t : TacText) (e : ExprValue) → resolved_expr context t ≡ Ok e → suits_expr e context.basis ≡ true
+    runs_found t e found =
+        subst (Each (λ x. suits_expr x context.basis ≡ true)) found (all_pass context IsSuited IsFormula whole_suited handing_suited formula_suited (λ p tac g h. g) t)

@@ -13,7 +13,7 @@ use Rattle.hol_kernel.proofs.Weaken.{is_known_more, has_type_more}
 use Rattle.hol_goal.specs.Arguments.{TacArgsValue, Nothing, Term, Pair, Theorem, TermAndTheorem, Theorems}
 use Rattle.hol_just.specs.Answering.{suits}
 use Rattle.hol_just.specs.Justifies.{holds_term, holds_given}
-use Rattle.hol_combine.specs.ExprValue.{CallValue, ExprValue, ExprValues, Call, Then, ThenL, OrElse, Try, Repeat, Every, First, Replicate, Changed, DischThen, PopAssum, FirstAssum, SubgoalThen, no_exprs, more_exprs}
+use Rattle.hol_combine.specs.ExprValue.{CallValue, ExprValue, ExprValues, Call, Then, ThenL, OrElse, Try, Repeat, Every, First, Replicate, Changed, DischThen, PopAssum, FirstAssum, SubgoalThen, Defined, no_exprs, more_exprs}
 use Rattle.hol_combine.specs.Suits.{all_calls, all_calls_of, written, by_subgoal, suits_expr}
 
 module _ (few more : Items) (sub : IsSubset few more) where
@@ -59,6 +59,7 @@ module _ (few more : CallValue → Bool) (h : (call : CallValue) → few call �
     all_larger (First ts) k = each_larger ts k
     all_larger (Replicate n t) k = all_larger t k
     all_larger (Changed t) k = all_larger t k
+    all_larger (Defined t) k = all_larger t k
     all_larger (DischThen tac) k = h (written tac) k
     all_larger (PopAssum tac) k = h (written tac) k
     all_larger (FirstAssum tac) k = h (written tac) k

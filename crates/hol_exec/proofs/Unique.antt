@@ -7,7 +7,7 @@ use Rattle.hol_notation_tactics.specs.Text.{TacText}
 use Rattle.hol_notation_commands.specs.Reading.{Reads, Breaks, ReadText, IsRead}
 use Rattle.hol_notation_commands.proofs.OneReading.{one_reading as one_command}
 use Rattle.hol_exec.specs.Setup.{SetupValue}
-use Rattle.hol_notation_commands.specs.Text.{LocalText, Goal, Apply, Qed, Make, Local, Direct}
+use Rattle.hol_notation_commands.specs.Text.{LocalText, Goal, Apply, Qed, DefineTac, Make, Local, Direct}
 use Rattle.hol_resolve.specs.Signature.{SignatureValue}
 use Rattle.hol_resolve.specs.Reading.{ReadingValue}
 use Rattle.hol_resolve.specs.Quotations.{quotations_in}
@@ -20,7 +20,9 @@ use Rattle.hol_exec.specs.StateValue.{StateValue, EndedTheory}
 use Rattle.hol_exec.specs.ReadsValue.{ReadsValue, Values}
 use Rattle.hol_exec.specs.declared.reports.refusal.RefusalKind.{RefusalKind}
 use Rattle.hol_exec.specs.Expr.{ResolutionValue, named_refusals, first_refusal, resolved_read, IsResolvedFitting, IsResolvedPast}
+use Rattle.hol_exec.specs.Naming.{taken_tac, names_resolved, IsNaming}
 use Rattle.hol_exec.specs.OutcomeValue.{OutcomeValue}
+use Rattle.hol_theory.specs.Key.{KeyValue}
 use Rattle.hol_theory.specs.Constants.{constant_names}
 use Rattle.hol_exec.specs.Tested.{TestedValue}
 use Rattle.hol_exec.specs.Local.{LocalValue, opens_read, IsOpening, resolved_outcome, IsApplying, IsLocalOutcome}
@@ -56,12 +58,12 @@ one_all_read over qs a b p q = p.2 ∙ ap read_all (one_attempts over qs p.0 q.0
 
 -- ---- resolutions
 
-module _ (setup : SetupValue) (cited : Values) where
-  one_fitting : (tactic : TacText) (a b : ResolutionValue) → IsResolvedFitting setup tactic cited a → IsResolvedFitting setup tactic cited b → a ≡ b
+module _ (setup : SetupValue) (taken : Option KeyValue) (cited : Values) where
+  one_fitting : (tactic : TacText) (a b : ResolutionValue) → IsResolvedFitting setup taken tactic cited a → IsResolvedFitting setup taken tactic cited b → a ≡ b
   one_fitting tactic a b p q =
-      p.2 ∙ ap (resolved_read setup tactic cited) (one_all_read (signature_of cited) (quotations_in (parts_of tactic)) p.0 q.0 p.1 q.1) ∙ sym q.2
+      p.2 ∙ ap (resolved_read setup taken tactic cited) (one_all_read (signature_of cited) (quotations_in (parts_of tactic)) p.0 q.0 p.1 q.1) ∙ sym q.2
 
-  one_past : (tactic : TacText) (o : Option (RefusalKind × List ℕ)) (a b : ResolutionValue) → IsResolvedPast setup tactic cited o a → IsResolvedPast setup tactic cited o b → a ≡ b
+  one_past : (tactic : TacText) (o : Option (RefusalKind × List ℕ)) (a b : ResolutionValue) → IsResolvedPast setup taken tactic cited o a → IsResolvedPast setup taken tactic cited o b → a ≡ b
   one_past tactic (Some refused) a b p q = p ∙ sym q
   one_past tactic None a b p q = one_fitting tactic a b p q
 
@@ -75,7 +77,14 @@ one_opening false name quotation reads a b p q =
 one_applying : (in_proof : Bool) (setup : SetupValue) (names : List (List ℕ)) (tactic : TacText) (reads : ReadsValue) (a b : LocalValue) → IsApplying in_proof setup names tactic reads a → IsApplying in_proof setup names tactic reads b → a ≡ b
 one_applying false setup names tactic reads a b p q = p ∙ sym q
 one_applying true setup names tactic reads a b p q =
-    p.2 ∙ ap (resolved_outcome setup names reads.goal) (one_past setup reads.cited tactic (first_refusal (named_refusals setup tactic reads.cited)) p.0 q.0 p.1 q.1) ∙ sym q.2
+    p.2 ∙ ap (resolved_outcome setup names reads.goal) (one_past setup None reads.cited tactic (first_refusal (named_refusals setup tactic reads.cited)) p.0 q.0 p.1 q.1) ∙ sym q.2
+
+one_naming : (in_proof : Bool) (setup : SetupValue) (name : List ℕ) (tactic : TacText) (reads : ReadsValue) (a b : OutcomeValue) → IsNaming in_proof setup name tactic reads a → IsNaming in_proof setup name tactic reads b → a ≡ b
+one_naming true setup name tactic reads a b p q = p ∙ sym q
+one_naming false setup name tactic reads a b p q =
+    p.2
+    ∙ ap (names_resolved setup name tactic reads.cited) (one_past setup (taken_tac setup name reads) reads.cited tactic (first_refusal (named_refusals setup tactic reads.cited)) p.0 q.0 p.1 q.1)
+    ∙ sym q.2
 
 -- of one outcome, where nothing was tested for both
 both_are : (a b : LocalValue) → a.outcome ≡ b.outcome → a.tested ≡ [] → b.tested ≡ [] → a ≡ b
@@ -85,6 +94,7 @@ pub one_local : (setup : SetupValue) (names : List (List ℕ)) (command : LocalT
 one_local setup names (Goal name quotation) reads a b p q = both_are a b (one_opening reads.in_proof name quotation reads a.outcome b.outcome p.0 q.0) p.1 q.1
 one_local setup names (Apply tactic) reads a b p q = one_applying reads.in_proof setup names tactic reads a b p q
 one_local setup names Qed reads a b p q = p ∙ sym q
+one_local setup names (DefineTac name tactic) reads a b p q = both_are a b (one_naming reads.in_proof setup name tactic reads a.outcome b.outcome p.0 q.0) p.1 q.1
 one_local setup names (Make making) reads a b p q = both_are a b (one_making reads.in_proof making reads a.outcome b.outcome p.0 q.0) p.1 q.1
 
 pub one_outcome : (setup : SetupValue) (earlier : List EndedTheory) (s : StateValue) (value : ReadText) (reads : Option ReadsValue) (tested more : TestedValue) (a b : OutcomeValue) →

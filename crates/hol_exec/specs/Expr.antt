@@ -13,7 +13,7 @@ use Rattle.hol_notation_tactics.specs.Text.{CallText, TacText, TacTexts, Call, T
 use Rattle.hol_goal.specs.Arguments.{TacArgsValue}
 use Rattle.hol_goal.specs.Arguments as args
 use Rattle.hol_goal.specs.declared.tac_code.TacCode.{TacCode}
-use Rattle.hol_combine.specs.ExprValue.{CallValue, TheoremTacValue, ExprValue, ExprValues, no_exprs, more_exprs}
+use Rattle.hol_combine.specs.ExprValue.{TheoremTacValue, ExprValue, ExprValues, no_exprs, more_exprs}
 use Rattle.hol_combine.specs.ExprValue as expr
 use Rattle.hol_resolve.specs.Forward.{rule_word}
 use Rattle.hol_resolve.specs.Quotations.{quotations_in}
@@ -28,15 +28,16 @@ use Rattle.hol_exec.specs.declared.reports.refusal.RefusalKind.TheVariants as re
 use Rattle.hol_exec.specs.Setup.{SetupValue}
 use Rattle.hol_exec.specs.ReadsValue.{Values}
 use Rattle.hol_exec.specs.Signature.{signature_of}
+use Rattle.hol_theory.specs.Key.{KeyValue, key_text}
 use Rattle.hol_exec.specs.Resolved.{cited_theorems, resolved_basis}
 use Rattle.hol_exec.specs.Standing.{first_unknown}
-use Rattle.hol_exec.specs.Callee.{CalleeValue, Registered, called}
+use Rattle.hol_exec.specs.Callee.{CalleeValue, Registered, Defined, called}
 
 -- ---- resolving, of one number all that is written before the next
 
--- what resolving comes to: an expression that can be run, with the basis of all that was resolved, or the refusal
+-- what resolving comes to: an expression that can be run, with the basis of all that was resolved and what its quotations read as, or the refusal
 pub data ResolutionValue : Type 0 where
-  Resolved : ExprValue → Items → ResolutionValue
+  Resolved : ExprValue → Items → ReadingsValue → ResolutionValue
   Unresolved : RefusalKind → List ℕ → ResolutionValue
 
 -- the name of the first call whose name stands for nothing, or whose arguments aren't of its kind
@@ -134,15 +135,18 @@ module _ (context : ContextValue) where
   abbrev pub given : List ℕ → WrittenArgsValue → Result TacArgsValue RefusedValue
   given name written = arguments_for context.basis context.cited context.readings name written
 
-  abbrev pub resolved_call : List ℕ → Option (CalleeValue × WrittenArgsValue) → Result CallValue RefusedValue
+  -- a call, or a use of an expression that was named
+  abbrev pub resolved_call : List ℕ → Option (CalleeValue × WrittenArgsValue) → Result ExprValue RefusedValue
   resolved_call name None = Err (refusal.UnknownTac, name)
-  resolved_call name (Some (Registered index code, written)) = mapped (λ a. record { index = index; name = name; args = a }) (given name written)
+  resolved_call name (Some (Registered index code, written)) = mapped (λ a. expr.Call (record { index = index; name = name; args = a })) (given name written)
+  resolved_call name (Some (Defined e bases, written)) = Ok (expr.Defined e)
 
   abbrev pub resolved_theorem_tac : List ℕ → Option (CalleeValue × WrittenArgsValue) → Result TheoremTacValue RefusedValue
   resolved_theorem_tac name None = Err (refusal.UnknownTac, name)
   resolved_theorem_tac name (Some (Registered index code, written)) = mapped (λ a. record { index = index; name = name; term = term_before a }) (given name written)
+  resolved_theorem_tac name (Some (Defined e bases, written)) = Err (refusal.UnknownTac, name)
 
-  abbrev pub resolved_whole : CallText → Result CallValue RefusedValue
+  abbrev pub resolved_whole : CallText → Result ExprValue RefusedValue
   resolved_whole call = resolved_call call.name (called context.table Whole call context.cited)
 
   abbrev pub resolved_handing : CallText → Result TheoremTacValue RefusedValue
@@ -150,7 +154,7 @@ module _ (context : ContextValue) where
 
   abbrev mutual
     pub resolved_expr : TacText → Result ExprValue RefusedValue
-    resolved_expr (Call call) = mapped expr.Call (resolved_whole call)
+    resolved_expr (Call call) = resolved_whole call
     resolved_expr (Then t u) = both expr.Then (resolved_expr t) (resolved_expr u)
     resolved_expr (ThenL t us) = both expr.ThenL (resolved_expr t) (resolved_exprs us)
     resolved_expr (OrElse t u) = both expr.OrElse (resolved_expr t) (resolved_expr u)
@@ -174,31 +178,36 @@ module _ (context : ContextValue) where
 abbrev pub refused_resolution : RefusedValue → ResolutionValue
 refused_resolution refused = Unresolved refused.0 refused.1
 
-abbrev pub resolution_of : Items → Result ExprValue RefusedValue → ResolutionValue
-resolution_of basis (Ok e) = Resolved e basis
-resolution_of basis (Err r) = refused_resolution r
+abbrev pub resolution_of : Items → ReadingsValue → Result ExprValue RefusedValue → ResolutionValue
+resolution_of basis readings (Ok e) = Resolved e basis readings
+resolution_of basis readings (Err r) = refused_resolution r
+
+-- past a key that is taken, if the command makes one
+abbrev pub resolved_untaken : SetupValue → Option KeyValue → TacText → Values → ReadingsValue → ResolutionValue
+resolved_untaken setup (Some key) tactic cited readings = Unresolved refusal.NameTaken (key_text key)
+resolved_untaken setup None tactic cited readings =
+    let basis : Items = resolved_basis cited readings in
+    resolution_of basis readings (resolved_expr (record { table = setup.table; cited = cited; readings = readings; basis = basis }) tactic)
 
 -- past the first quotation that isn't of type bool, if there is one
-abbrev pub resolved_formulas : SetupValue → TacText → Values → ReadingsValue → Option ℕ → ResolutionValue
-resolved_formulas setup tactic cited readings (Some place) = Unresolved refusal.NotBool (decimal place)
-resolved_formulas setup tactic cited readings None =
-    let basis : Items = resolved_basis cited readings in
-    resolution_of basis (resolved_expr (record { table = setup.table; cited = cited; readings = readings; basis = basis }) tactic)
+abbrev pub resolved_formulas : SetupValue → Option KeyValue → TacText → Values → ReadingsValue → Option ℕ → ResolutionValue
+resolved_formulas setup taken tactic cited readings (Some place) = Unresolved refusal.NotBool (decimal place)
+resolved_formulas setup taken tactic cited readings None = resolved_untaken setup taken tactic cited readings
 
 -- what is written, by what its quotations read as
-abbrev pub resolved_read : SetupValue → TacText → Values → Result ReadingsValue Refusal → ResolutionValue
-resolved_read setup tactic cited (Ok readings) = resolved_formulas setup tactic cited readings (first_not_bool readings (formulas_in (parts_of tactic)))
-resolved_read setup tactic cited (Err r) = refused_resolution (refused_by [] r)
+abbrev pub resolved_read : SetupValue → Option KeyValue → TacText → Values → Result ReadingsValue Refusal → ResolutionValue
+resolved_read setup taken tactic cited (Ok readings) = resolved_formulas setup taken tactic cited readings (first_not_bool readings (formulas_in (parts_of tactic)))
+resolved_read setup taken tactic cited (Err r) = refused_resolution (refused_by [] r)
 
 -- past what is refused of names: all that is quoted is read before anything is resolved
-abbrev pub IsResolvedFitting : SetupValue → TacText → Values → ResolutionValue → Type 0
-IsResolvedFitting setup tactic cited resolution =
-    (readings : Result ReadingsValue Refusal) × AreRead (signature_of cited) (quotations_in (parts_of tactic)) readings × (resolution ≡ resolved_read setup tactic cited readings)
+abbrev pub IsResolvedFitting : SetupValue → Option KeyValue → TacText → Values → ResolutionValue → Type 0
+IsResolvedFitting setup taken tactic cited resolution =
+    (readings : Result ReadingsValue Refusal) × AreRead (signature_of cited) (quotations_in (parts_of tactic)) readings × (resolution ≡ resolved_read setup taken tactic cited readings)
 
-abbrev pub IsResolvedPast : SetupValue → TacText → Values → Option (RefusalKind × List ℕ) → ResolutionValue → Type 0
-IsResolvedPast setup tactic cited (Some refused) resolution = resolution ≡ refused_resolution refused
-IsResolvedPast setup tactic cited None resolution = IsResolvedFitting setup tactic cited resolution
+abbrev pub IsResolvedPast : SetupValue → Option KeyValue → TacText → Values → Option (RefusalKind × List ℕ) → ResolutionValue → Type 0
+IsResolvedPast setup taken tactic cited (Some refused) resolution = resolution ≡ refused_resolution refused
+IsResolvedPast setup taken tactic cited None resolution = IsResolvedFitting setup taken tactic cited resolution
 
--- what is written comes to this, over the values of what it cites
-abbrev pub IsResolution : SetupValue → TacText → Values → ResolutionValue → Type 0
-IsResolution setup tactic cited resolution = IsResolvedPast setup tactic cited (first_refusal (named_refusals setup tactic cited)) resolution
+-- what is written comes to this, over the values of what it cites; a key that the command makes may be taken
+abbrev pub IsResolution : SetupValue → Option KeyValue → TacText → Values → ResolutionValue → Type 0
+IsResolution setup taken tactic cited resolution = IsResolvedPast setup taken tactic cited (first_refusal (named_refusals setup tactic cited)) resolution

@@ -1,15 +1,15 @@
 -- What the code's resolutions stand for, and when an expression is resolved to one.
 use Rattle.std.specs.Prelude.{◌≡◌, List, ◌∷◌, ◌++◌, Result, Ok, Err, IfOk, IsErr, string_bytes}
 use Rattle.std.specs.Global.{Vec}
+use Rattle.hol_resolve.specs.ReadingView.{readings_value}
 use Rattle.hol_goal.specs.Arguments.{TacArgsValue}
 use Rattle.hol_goal.specs.ArgumentsView.{args_value}
 use Rattle.hol_goal.specs.declared.tac_args.TacArgs.{TacArgs}
-use Rattle.hol_combine.specs.ExprValue.{CallValue, TheoremTacValue, ExprValue, ExprValues, exprs, then_all, or_else_all}
-use Rattle.hol_combine.specs.ExprView.{call_value, theorem_tac_value, expr_of_handing, expr_of_node}
-use Rattle.hol_combine.specs.declared.expr.TacCall.{TacCall}
+use Rattle.hol_combine.specs.ExprValue.{TheoremTacValue, ExprValue, ExprValues, exprs, then_all, or_else_all}
+use Rattle.hol_combine.specs.ExprView.{theorem_tac_value, expr_of_handing}
+use Rattle.hol_combine.specs.Chains.{Steps, Alternatives, chain_of, last_chain}
 use Rattle.hol_combine.specs.declared.expr.TheoremTac.{TheoremTac}
 use Rattle.hol_combine.specs.declared.expr.Handing.{Handing}
-use Rattle.hol_combine.specs.declared.expr.ExprNode.{ExprNode}
 use Rattle.hol_exec.specs.declared.resolving.resolution.Resolution.{Resolution}
 use Rattle.hol_exec.specs.declared.resolving.resolution.Resolution.TheVariants as resolution
 use Rattle.hol_exec.specs.declared.resolving.unresolved.Unresolved.{Unresolved as Fault}
@@ -17,7 +17,7 @@ use Rattle.hol_exec.specs.declared.resolving.unresolved.Unresolved.TheVariants a
 use Rattle.hol_exec.specs.Expr.{ResolutionValue, Resolved, Unresolved, RefusedValue, mapped}
 
 abbrev pub resolution_value : Resolution → ResolutionValue
-resolution_value (resolution.Resolved e basis) = Resolved e basis
+resolution_value (resolution.Resolved e basis readings) = Resolved e basis (readings_value readings)
 resolution_value (resolution.Unresolved kind arg) = Unresolved kind (string_bytes arg)
 
 -- what is refused is this, unless memory is short
@@ -40,10 +40,6 @@ IsUnresolved fault.Memory result = IsErr result
 
 -- ---- what is found, as the code has it
 
-abbrev pub IsCallFound : Result CallValue RefusedValue → Result TacCall Fault → Type 0
-IsCallFound r (Ok call) = r ≡ Ok (call_value call)
-IsCallFound r (Err f) = IsFault r f
-
 abbrev pub IsTheoremTacFound : Result TheoremTacValue RefusedValue → Result TheoremTac Fault → Type 0
 IsTheoremTacFound r (Ok tac) = r ≡ Ok (theorem_tac_value tac)
 IsTheoremTacFound r (Err f) = IsFault r f
@@ -52,20 +48,17 @@ abbrev pub AreArgumentsFound : Result TacArgsValue RefusedValue → Result TacAr
 AreArgumentsFound r (Ok args) = r ≡ Ok (args_value args)
 AreArgumentsFound r (Err f) = IsFault r f
 
-abbrev pub IsNodeFound : Result ExprValue RefusedValue → Result ExprNode Fault → Type 0
-IsNodeFound r (Ok node) = r ≡ Ok (expr_of_node node)
-IsNodeFound r (Err f) = IsFault r f
-
 abbrev pub ArePartsFound : Result ExprValues RefusedValue → Result (Vec ExprValue) Fault → Type 0
 ArePartsFound r (Ok parts) = r ≡ Ok (exprs parts.items)
 ArePartsFound r (Err f) = IsFault r f
 
--- the parts of a chain of THEN that were added, first and last: the chain is what they make
+-- the parts of a chain of THEN that were added, first and last: the chain is what they make, and is one node
 pub record IsChain (r : Result ExprValue RefusedValue) (old new : List ExprValue) : Type 0 where
   pub first : ExprValue
   pub more : List ExprValue
   pub added : new ≡ old ++ first ∷ more
   pub is : r ≡ Ok (then_all first more)
+  pub whole : chain_of first ≡ Steps → ⊥
 
 abbrev pub IsChainFound : Result ExprValue RefusedValue → List ExprValue → List ExprValue → Result (Unit {0}) Fault → Type 0
 IsChainFound r old new (Ok done) = IsChain r old new
@@ -76,6 +69,7 @@ pub record AreAlternatives (r : Result ExprValue RefusedValue) (old new : List E
   pub more : List ExprValue
   pub added : new ≡ old ++ first ∷ more
   pub is : r ≡ Ok (or_else_all first more)
+  pub whole : last_chain first more ≡ Alternatives → ⊥
 
 abbrev pub AreAlternativesFound : Result ExprValue RefusedValue → List ExprValue → List ExprValue → Result (Unit {0}) Fault → Type 0
 AreAlternativesFound r old new (Ok done) = AreAlternatives r old new

@@ -5,8 +5,8 @@ use Rattle.hol_notation_terms.specs.Text.{VariableText, DefinitionText, TypeText
 use Rattle.hol_notation_tactics.specs.Parts.{parts_of}
 use Rattle.hol_notation_tactics.specs.declared.parts.Part.{Part}
 use Rattle.hol_notation_tactics.specs.declared.parts.Part.TheVariants as part
-use Rattle.hol_theory.specs.Key.{KeyValue, type_key, constant_key, theorem_key}
-use Rattle.hol_notation_commands.specs.Text.{MakingText, NewType, NewConstant, NewAxiom, NewDefinition, NewBasicTypeDefinition, LocalText, Goal, Apply, Qed, Make}
+use Rattle.hol_theory.specs.Key.{KeyValue, type_key, constant_key, theorem_key, tac_key}
+use Rattle.hol_notation_commands.specs.Text.{MakingText, NewType, NewConstant, NewAxiom, NewDefinition, NewBasicTypeDefinition, LocalText, Goal, Apply, Qed, DefineTac, Make}
 
 -- `type:` of each identifier in a type
 abbrev mutual
@@ -31,13 +31,13 @@ keys_of_term (Applied f a) = keys_of_term f ++ keys_of_term a
 keys_of_term (Abstraction v b) = constant_key v.name ∷ keys_of_annotation v.annotation ++ keys_of_term b
 keys_of_term (Typed t ty) = keys_of_term t ++ keys_of_type ty
 
--- the keys of the terms and types that are written in an expression, and `thm:` of each name that is cited; a TAC's own name is looked up in the set-up alone
+-- the keys of the terms and types that are written in an expression, `thm:` of each name that is cited, and `tac:` of each name that is called, registered ones too
 abbrev pub keys_in : List Part → List KeyValue
 keys_in [] = []
 keys_in (part.Term t ∷ parts) = keys_of_term t.term ++ keys_in parts
 keys_in (part.Type a ∷ parts) = keys_of_type a.ty ++ keys_in parts
 keys_in (part.Theorem name ∷ parts) = theorem_key name ∷ keys_in parts
-keys_in (part.Call role call ∷ parts) = keys_in parts
+keys_in (part.Call role call ∷ parts) = tac_key call.name ∷ keys_in parts
 keys_in (part.Formula p ∷ parts) = keys_of_term p.term ++ keys_in parts
 
 abbrev pub keys_of_parameters : List VariableText → List KeyValue
@@ -59,6 +59,7 @@ abbrev pub cited_keys : LocalText → List KeyValue
 cited_keys (Goal name quotation) = keys_of_term quotation.term
 cited_keys (Apply tactic) = keys_in (parts_of tactic)
 cited_keys Qed = []
+cited_keys (DefineTac name tactic) = keys_in (parts_of tactic)
 cited_keys (Make making) = cited_by_making making
 
 abbrev pub made_by_making : MakingText → List KeyValue
@@ -73,6 +74,7 @@ abbrev pub made_keys : LocalText → List KeyValue
 made_keys (Goal name quotation) = theorem_key name ∷ []
 made_keys (Apply tactic) = []
 made_keys Qed = []
+made_keys (DefineTac name tactic) = tac_key name ∷ []
 made_keys (Make making) = made_by_making making
 
 -- both

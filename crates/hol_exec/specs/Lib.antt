@@ -17,6 +17,7 @@ pub mod Standing
 pub mod Resolved
 pub mod Callee
 pub mod CalleeView
+pub mod OwnBases
 pub mod Expr
 pub mod ExprView
 pub mod ContextView
@@ -30,6 +31,7 @@ pub mod Filters
 pub mod Defining
 pub mod Making
 pub mod Tested
+pub mod Naming
 pub mod Local
 pub mod At
 pub mod Valid

@@ -1,6 +1,7 @@
 -- The outcome of a command from what it reads, with its refusals in their order: of one number the whole command is tested, from left to
 -- right, before the next one is; and what is resolved comes before what is run.
--- Source: this project; `g` and `e` are after HOL Light's tactics.ml. What makes types, constants, axioms and definitions is apart (Making).
+-- Source: this project; `g` and `e` are after HOL Light's tactics.ml. What makes types, constants, axioms and definitions is apart (Making), and what names
+-- expressions (Naming).
 use Rattle.std.specs.Prelude.{◌≡◌, ℕ, List, [], ◌∷◌, Bool, true, false, cond, decimal, nat_eq, Option, Some, None}
 use Rattle.hol_terms.specs.Nameless.{Nameless, nameless_type}
 use Rattle.hol_formulas.specs.Equation.{bool_type}
@@ -20,7 +21,7 @@ use Rattle.hol_exec.specs.declared.reports.refusal.RefusalKind.TheVariants as re
 use Rattle.hol_theory.specs.Key.{KeyValue, theorem_key, key_text}
 use Rattle.hol_theory.specs.Entry.{ATheorem}
 use Rattle.hol_exec.specs.Setup.{SetupValue}
-use Rattle.hol_notation_commands.specs.Text.{LocalText, Goal, Apply, Qed, Make}
+use Rattle.hol_notation_commands.specs.Text.{LocalText, Goal, Apply, Qed, DefineTac, Make}
 use Rattle.hol_exec.specs.ReadsValue.{ReadsValue, ClosingValue}
 use Rattle.hol_exec.specs.Signature.{signature_of}
 use Rattle.hol_exec.specs.Resolved.{resolved_basis}
@@ -30,6 +31,7 @@ use Rattle.hol_exec.specs.Standing.{first_taken}
 use Rattle.hol_exec.specs.Expr.{ResolutionValue, Resolved, Unresolved, IsResolution}
 use Rattle.hol_exec.specs.OutcomeValue.{OutcomeValue, Opens, Leaves, Makes, Refuses}
 use Rattle.hol_exec.specs.Making.{IsMaking}
+use Rattle.hol_exec.specs.Naming.{IsNaming}
 use Rattle.hol_exec.specs.Tested.{TestedValue, marked}
 
 -- an outcome, with the names that were tested for it
@@ -88,14 +90,14 @@ applied setup names None expr basis = untested (Refuses refusal.NoGoalOpen [])
 applied setup names (Some goal) expr basis = run_outcome names goal basis (run (known setup.table names) expr goal (starting setup.turns))
 
 abbrev pub resolved_outcome : SetupValue → List (List ℕ) → Option GoalValue → ResolutionValue → LocalValue
-resolved_outcome setup names goal (Resolved expr basis) = applied setup names goal expr basis
+resolved_outcome setup names goal (Resolved expr basis readings) = applied setup names goal expr basis
 resolved_outcome setup names goal (Unresolved kind arg) = untested (Refuses kind arg)
 
 -- no proof is open, or what is written resolves to something, and the outcome is by that
 abbrev pub IsApplying : Bool → SetupValue → List (List ℕ) → TacText → ReadsValue → LocalValue → Type 0
 IsApplying false setup names tactic reads given = given ≡ untested (Refuses refusal.NoProofOpen [])
 IsApplying true setup names tactic reads given =
-    (resolution : ResolutionValue) × IsResolution setup tactic reads.cited resolution × (given ≡ resolved_outcome setup names reads.goal resolution)
+    (resolution : ResolutionValue) × IsResolution setup None tactic reads.cited resolution × (given ≡ resolved_outcome setup names reads.goal resolution)
 
 -- ---- `qed`: no proof open; goals remain
 
@@ -113,4 +115,5 @@ abbrev pub IsLocalOutcome : SetupValue → List (List ℕ) → LocalText → Rea
 IsLocalOutcome setup names (Goal name quotation) reads given = IsOpening reads.in_proof name quotation reads given.outcome × (given.tested ≡ [])
 IsLocalOutcome setup names (Apply tactic) reads given = IsApplying reads.in_proof setup names tactic reads given
 IsLocalOutcome setup names Qed reads given = given ≡ untested (finishes reads.closing)
+IsLocalOutcome setup names (DefineTac name tactic) reads given = IsNaming reads.in_proof setup name tactic reads given.outcome × (given.tested ≡ [])
 IsLocalOutcome setup names (Make making) reads given = IsMaking reads.in_proof making reads given.outcome × (given.tested ≡ [])

@@ -8,7 +8,7 @@ use Rattle.hol_goal.specs.Goal.{GoalValue}
 use Rattle.hol_theory.specs.Key.{KeyValue}
 use Rattle.hol_theory.specs.Entry.{Entries, EntryValue, entry_at}
 use Rattle.hol_exec.specs.StateValue.{ProofValue, StateValue, open_goals}
-use Rattle.hol_notation_commands.specs.Text.{LocalText, Goal, Apply, Qed, Make, Local, Direct}
+use Rattle.hol_notation_commands.specs.Text.{LocalText, Goal, Apply, Qed, DefineTac, Make, Local, Direct}
 use Rattle.hol_notation_commands.specs.Reading.{ReadText, Reads, Breaks}
 use Rattle.hol_exec.specs.Keys.{cited_keys, made_keys}
 
@@ -50,12 +50,14 @@ abbrev pub goal_for : LocalText → Option ProofValue → Option GoalValue
 goal_for (Goal name quotation) proof = None
 goal_for (Apply tactic) proof = first_goal proof
 goal_for Qed proof = None
+goal_for (DefineTac name tactic) proof = None
 goal_for (Make making) proof = None
 
 abbrev pub closing_for : LocalText → Option ProofValue → Option ClosingValue
 closing_for (Goal name quotation) proof = None
 closing_for (Apply tactic) proof = None
 closing_for Qed proof = closing_of proof
+closing_for (DefineTac name tactic) proof = None
 closing_for (Make making) proof = None
 
 abbrev pub reads_of : LocalText → StateValue → ReadsValue

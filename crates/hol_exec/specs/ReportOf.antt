@@ -3,7 +3,7 @@ use Rattle.std.specs.Prelude.{ℕ, List, ◌++◌, codes, decimal, map}
 use Rattle.hol_terms.specs.Nameless.{Nameless}
 use Rattle.hol_goal.specs.Goal.{GoalValue}
 use Rattle.hol_theory.specs.Key.{KeyValue}
-use Rattle.hol_theory.specs.Entry.{EntryValue, AType, AConstant, ATheorem}
+use Rattle.hol_theory.specs.Entry.{EntryValue, AType, AConstant, ATheorem, ATac}
 use Rattle.hol_exec.specs.StateValue.{StateValue, open_goals}
 use Rattle.hol_exec.specs.OutcomeValue.{OutcomeValue, Opens, Leaves, Undoes, Rotates, Makes, Refuses}
 use Rattle.hol_exec.specs.ReportValue.{ReportValue, ShowsGoals, HasMade, WasRefused}
@@ -19,11 +19,12 @@ shown_goal goal = show_goal goal.assumptions goal.conclusion
 abbrev pub theorem_text : Nameless → List ℕ
 theorem_text p = codes "|- " ++ show p
 
--- an entry as clients see it: `type N/k`, `const N:ty` or `thm N |- p`
+-- an entry as clients see it: `type N/k`, `const N:ty`, `thm N |- p` or `tac N`
 abbrev pub entry_text_at : KeyValue → EntryValue → List ℕ
 entry_text_at key (AType arity item basis) = codes "type " ++ key.name ++ codes "/" ++ decimal arity
 entry_text_at key (AConstant ty item basis) = codes "const " ++ key.name ++ codes ":" ++ show_type ty
 entry_text_at key (ATheorem th) = codes "thm " ++ key.name ++ codes " " ++ theorem_text th.sequent.concl
+entry_text_at key (ATac e bases basis) = codes "tac " ++ key.name
 
 abbrev pub entry_text : KeyValue × EntryValue → List ℕ
 entry_text e = entry_text_at e.0 e.1

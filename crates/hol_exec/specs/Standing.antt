@@ -15,16 +15,18 @@ abbrev pub in_prelude : Kind → List ℕ → Bool
 in_prelude key_kind.Type name = list_any (λ p. bytes_eq name p.0) prelude_types
 in_prelude key_kind.Constant name = list_any (λ p. bytes_eq name p.0) prelude_constants
 in_prelude key_kind.Theorem name = list_any (λ p. bytes_eq name p.0) prelude_statements
+in_prelude key_kind.Tac name = false
 
 -- whether something stands under a key: an entry, this being its value, or what the prelude has
 abbrev pub is_standing : KeyValue → Option EntryValue → Bool
 is_standing key value = is_some value || in_prelude key.kind key.name
 
--- an identifier of a term or a type under whose key nothing stands is a variable, and not unknown, as a theorem is
+-- an identifier of a term or a type under whose key nothing stands is a variable, and not unknown, as a theorem is; what a name calls is told elsewhere (Callee)
 abbrev pub is_unknown : Kind → Bool → Bool
 is_unknown key_kind.Type standing = false
 is_unknown key_kind.Constant standing = false
 is_unknown key_kind.Theorem standing = not standing
+is_unknown key_kind.Tac standing = false
 
 -- the name of the first unknown theorem
 abbrev pub first_unknown : Values → Option (List ℕ)

@@ -1,6 +1,6 @@
 -- What the program keeps of a state, of reads and of an outcome beside their values, and when a proof can take a step. Public clauses speak of the first alone (`State::promise`).
 -- Source of validity: LNCS 78: from theorems that achieve the goals left, a theorem is had that achieves the goal.
-use Rattle.std.specs.Prelude.{◌≡◌, ℕ, List, [], ◌∷◌, length, true, Option, Some, None}
+use Rattle.std.specs.Prelude.{◌≡◌, ℕ, List, [], ◌∷◌, true, Option, Some, None}
 use Rattle.std.specs.declared.cmp.Ordering.{Ordering}
 use Rattle.std.specs.declared.cmp.Ordering.TheVariants.{Less, Equal, Greater}
 use Rattle.std.specs.FinSet as set
@@ -17,9 +17,7 @@ use Rattle.hol_kernel.specs.Sequent.{no_hyps}
 use Rattle.hol_kernel.specs.Typing.{HasType}
 use Rattle.hol_formulas.specs.Equation.{bool_type}
 use Rattle.hol_goal.specs.Goal.{GoalValue}
-use Rattle.hol_goal.specs.declared.tac_code.TacCode.{TacCode}
-use Rattle.hol_combine.specs.ExprValue.{ExprValue}
-use Rattle.hol_combine.specs.Suits.{are_indices, suits_expr}
+use Rattle.hol_combine.specs.Suits.{suits_expr}
 use Rattle.hol_just.specs.Valid.{IsValid}
 use Rattle.hol_just.specs.declared.reason.Move.{Move}
 use Rattle.hol_stack.specs.Calls.{IsStep}
@@ -28,7 +26,6 @@ use Rattle.hol_exec.specs.declared.resolving.resolution.Resolution.{Resolution}
 use Rattle.hol_exec.specs.declared.resolving.resolution.Resolution.TheVariants as resolution
 use Rattle.hol_exec.specs.declared.running.outcome.Change.{Change}
 use Rattle.hol_exec.specs.declared.running.outcome.Change.TheVariants.{Opens, Leaves, Undoes, Rotates, Makes, Refuses}
-use Rattle.hol_exec.specs.Setup.{SetupValue}
 use Rattle.hol_exec.specs.Keys.{made_by_making}
 use Rattle.hol_theory.specs.Key.{key_eq, theorem_key}
 use Rattle.hol_theory.specs.Entry.{Entries, EachIsEntry, entry_at}
@@ -45,14 +42,10 @@ IsFreeFor entries (Some p) = entry_at (theorem_key p.name) entries ≡ None
 abbrev pub IsStatement : Items → Nameless → Type 0
 IsStatement basis t = HasType basis t bool_type
 
--- An expression that is resolved can be run: it calls registered functions, and the basis suits what they are given.
-pub record IsRunnableExpr (table : List (List ℕ × TacCode)) (basis : Items) (e : ExprValue) : Type 0 where
-  pub indices : are_indices (length table) e ≡ true
-  pub suits : suits_expr e basis ≡ true
-
-abbrev pub IsRunnableIf : SetupValue → Resolution → Type 0
-IsRunnableIf setup (resolution.Resolved e basis) = IsRunnableExpr setup.table basis e
-IsRunnableIf setup (resolution.Unresolved kind arg) = Unit {0}
+-- an expression that is resolved can be run: the basis suits what its calls are given
+abbrev pub IsRunnableIf : Resolution → Type 0
+IsRunnableIf (resolution.Resolved e basis readings) = suits_expr e basis ≡ true
+IsRunnableIf (resolution.Unresolved kind arg) = Unit {0}
 
 -- the values are what stands under their keys
 abbrev pub StandIn : Entries → Values → Type 0

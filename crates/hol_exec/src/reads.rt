@@ -31,6 +31,7 @@ use hol_goal::Goal;
 use hol_notation_commands::LocalCommand;
 use hol_theory::{Key, Value};
 use hol_types::NameFilter;
+pub(crate) use keys::add_parts;
 pub(crate) use same::{Same, same_each};
 use std::alloc::{AllocError, Global};
 use std::hash::{Hash, Hasher};
@@ -347,6 +348,16 @@ fn are_apart(values: &[(Key, Option<Value>)], changes: &ChangedKeys) -> bool
     true
 }
 
+/// The same, if there is one.
+pub(crate) fn entry_copy(entry: &Option<Value>) -> Result<Option<Value>, AllocError>
+    ensures { IfOk result (λ copied. copied ≡ entry.now) }
+{
+    match entry {
+        Some(entry) => Ok(Some(entry.copy()?)),
+        None => Ok(None),
+    }
+}
+
 fn goal_for(command: &LocalCommand, state: &State) -> Result<Option<Goal>, AllocError>
     ensures { IfOk result (λ goal. goal ≡ goal_for (local_text command.now) state.now.proof) }
 {
@@ -360,6 +371,7 @@ fn goal_for(command: &LocalCommand, state: &State) -> Result<Option<Goal>, Alloc
             quotation: _,
         }
         | LocalCommand::Qed
+        | LocalCommand::DefineTac { name: _, tactic: _ }
         | LocalCommand::Make(_) => Ok(None),
     }
 }
@@ -381,6 +393,7 @@ fn closing_for(
             quotation: _,
         }
         | LocalCommand::Apply(_)
+        | LocalCommand::DefineTac { name: _, tactic: _ }
         | LocalCommand::Make(_) => Ok(None),
     }
 }
@@ -400,6 +413,7 @@ fn is_goal_for(goal: &Option<Goal>, command: &LocalCommand, state: &State) -> bo
             quotation: _,
         }
         | LocalCommand::Qed
+        | LocalCommand::DefineTac { name: _, tactic: _ }
         | LocalCommand::Make(_) => goal.is_none(),
     }
 }
@@ -419,6 +433,7 @@ fn is_closing_for(closing: &Option<Closing>, command: &LocalCommand, state: &Sta
             quotation: _,
         }
         | LocalCommand::Apply(_)
+        | LocalCommand::DefineTac { name: _, tactic: _ }
         | LocalCommand::Make(_) => closing.is_none(),
     }
 }

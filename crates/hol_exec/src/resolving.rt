@@ -9,8 +9,10 @@ mod formulas;
 mod looks_up;
 mod occurring;
 mod resolution;
+mod theorem_bases;
 mod unresolved;
 
 pub(crate) use basis::{term_basis, type_basis};
 pub(crate) use cited::theorem_at;
 pub(crate) use resolution::{Resolution, resolve};
+pub(crate) use theorem_bases::own_bases;

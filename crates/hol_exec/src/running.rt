@@ -2,6 +2,7 @@
 
 mod direct_outcome;
 mod meter;
+mod naming;
 mod next;
 mod outcome;
 mod refused;

@@ -1,9 +1,9 @@
 -- What matching answers is what the test of instances says.
-use Rattle.std.specs.Prelude.{◌≡◌, ℕ, List, [], Bool, true, false, Option, Some, None, is_some, IfSome, IsNone, IsTrue, refl, ◌↔◌}
-use Rattle.std.proofs.Common.{ap, sym, ◌∙◌}
+use Rattle.std.specs.Prelude.{◌≡◌, ℕ, List, [], true, Option, Some, None, is_some, IsTrue, refl, ◌↔◌}
+use Rattle.std.proofs.Common.{ap}
 use Rattle.hol_types.specs.Tree.{TypeTree}
 use Rattle.hol_types.specs.Subst.{type_subst}
-use Rattle.hol_types.specs.Match.{match_type, IsMatchOf, HasNoMatch}
+use Rattle.hol_types.specs.Match.{match_type}
 use Rattle.hol_types.proofs.MatchLaws.{match_found, match_missing}
 use Rattle.hol_formulas.specs.Constants.{is_instance}
 
@@ -28,12 +28,3 @@ subst_of_instance generic a = subst_by generic a (match_type generic [] a) refl
 
 pub instance_decides : (generic a : TypeTree) → IsTrue (is_instance generic a) ↔ ((pairs : Pairs) × (type_subst pairs generic ≡ a))
 instance_decides generic a = (subst_of_instance generic a, λ p. instance_of_subst generic a p.0 p.1)
-
-not_instance : (generic a : TypeTree) (o : Option Pairs) → match_type generic [] a ≡ o → HasNoMatch generic a → is_some o ≡ false
-not_instance generic a None e none = refl
-not_instance generic a (Some found) e none = let m = match_found generic a found e in absurd (none _ m.gives)
-
--- the test as the code has it
-pub instance_test : {V : Type 0} (generic a : TypeTree) (items : V → Pairs) (found : Option V) (is : Bool) → IfSome found (λ v. IsMatchOf generic a (items v)) → (IsNone found → HasNoMatch generic a) → is ≡ is_some found → is ≡ is_instance generic a
-instance_test generic a items None is some none e = e ∙ sym (not_instance generic a (match_type generic [] a) refl (none refl))
-instance_test generic a items (Some v) is some none e = e ∙ sym (instance_of_subst generic a (items v) some.gives)

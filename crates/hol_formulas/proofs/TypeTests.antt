@@ -1,14 +1,14 @@
 -- What the tests of types of functions and of the type of truth values say.
-use Rattle.std.specs.Prelude.{◌≡◌, ℕ, Bool, true, false, cond, ◌&&◌, List, [], ◌∷◌, length, ◌==◌, bytes_eq, codes, Some, None, refl}
+use Rattle.std.specs.Prelude.{◌≡◌, ℕ, Bool, true, false, cond, ◌&&◌, List, bytes_eq, codes, Some, None, refl}
 use Rattle.std.specs.Bool.{one_answer}
 use Rattle.std.specs.Ordering.{ordering_then, is_eq}
 use Rattle.std.specs.declared.cmp.Ordering.{Ordering}
 use Rattle.std.specs.declared.cmp.Ordering.TheVariants.{Equal}
 use Rattle.std.specs.Cmp.{Equal-is}
-use borrow.Author.Tests.{eqb-true}
-use Rattle.std.proofs.Common.{ap, sym, ◌∙◌, arith}
+use Rattle.std.proofs.Common.{ap, sym, ◌∙◌}
 use Rattle.std.proofs.lemmas.Slice.Eq.{bytes_eq-Decides}
-use Rattle.hol_types.specs.Tree.{TypeTree, TypeList, TyVar, TyApp, no_types, more_types, type_list}
+use Rattle.hol_types.specs.Tree.{TypeTree, TypeList, TyVar, TyApp, no_types, more_types}
+use Rattle.hol_types.specs.Basic.{is_empty, is_bool}
 use Rattle.hol_types.specs.Equal.{type_eq}
 use Rattle.hol_types.specs.Order.{name_cmp, type_cmp, types_cmp}
 use Rattle.hol_types.specs.Fun.{fun_type, fun_parts, both_of}
@@ -54,25 +54,15 @@ pub ruleset function_types = (parts_test, no_parts_test)
 
 -- ---- truth values
 
-pub bool_test_var : (a : List ℕ) → type_eq (TyVar a) bool_type ≡ false
-bool_test_var a = refl
-
-no_arguments : (ts : List TypeTree) → is_eq (types_cmp (type_list ts) no_types) ≡ (length ts == 0)
-no_arguments [] = refl
-no_arguments (t ∷ ts) = by (length (t ∷ ts) == 0) refl
-  where
-    by : (b : Bool) → (length (t ∷ ts) == 0) ≡ b → false ≡ b
-    by true e = absurd (omega (arith, eqb-true (length (t ∷ ts)) 0 e))
-    by false e = refl
+no_arguments : (ts : TypeList) → is_eq (types_cmp ts no_types) ≡ is_empty ts
+no_arguments no_types = refl
+no_arguments (more_types t ts) = refl
 
 name_test : (a b : List ℕ) → is_eq (name_cmp a b) ≡ bytes_eq a b
 name_test a b =
     one_answer (is_eq (name_cmp a b)) (bytes_eq a b)
     (λ e. name_equal a b ((Equal-is (name_cmp a b)).0 e), λ e. ap (λ c. is_eq (name_cmp a c)) (sym e) ∙ ap is_eq (name_same a)) (bytes_eq-Decides a b)
 
-pub bool_test_app : (c : List ℕ) (ts : List TypeTree) → type_eq (TyApp c (type_list ts)) bool_type ≡ (bytes_eq c (codes "bool") && (length ts == 0))
-bool_test_app c ts =
-    is_eq_then (name_cmp c (codes "bool")) (types_cmp (type_list ts) no_types)
-    ∙ (λ i. name_test c (codes "bool") i && no_arguments ts i)
-
-pub ruleset bool_types = (bool_test_var, bool_test_app)
+pub truth_test : (t : TypeTree) → is_bool t ≡ type_eq t bool_type
+truth_test (TyVar a) = refl
+truth_test (TyApp c ts) = sym (is_eq_then (name_cmp c (codes "bool")) (types_cmp ts no_types) ∙ (λ i. name_test c (codes "bool") i && no_arguments ts i))

@@ -4,26 +4,28 @@ ghost use Rattle.hol_types.specs.Fun.{fun_type};
 ghost use Rattle.hol_terms.specs.Named.{constant, named_type};
 ghost use Rattle.hol_formulas.specs.Equation.{bool_type, equality_type, mk_eq};
 
-use crate::terms::constant_named;
-use crate::types::equality_type;
+use crate::types::bool_beside;
 use hol_terms::Term;
-use hol_types::Ty;
+use hol_types::{KnownName, Name, Ty};
 use std::alloc::{AllocError, Global};
 use std::marker::Model;
 
-/// The constant `=` between terms of a type. Its copies share it.
+/// The constant `=` between terms of a type, with the types of its applications.
 #[derive(Drop)]
 pub struct Equality {
     ty: Ty,
     sign: Term,
+    property: Ty,
+    truth: Ty,
 }
 
 impl Model for Equality {
     ghost use Rattle.std.specs.Prelude.{◌≡◌, codes};
     ghost use Rattle.hol_types.specs.Tree.{TypeTree};
     ghost use Rattle.hol_types.specs.Code.{coded_type};
+    ghost use Rattle.hol_types.specs.Fun.{fun_type};
     ghost use Rattle.hol_terms.specs.Named.{constant};
-    ghost use Rattle.hol_formulas.specs.Equation.{equality_type};
+    ghost use Rattle.hol_formulas.specs.Equation.{bool_type, equality_type};
 
     ghost Value = { TypeTree };
 
@@ -31,7 +33,7 @@ impl Model for Equality {
 
     ghost view = { λ e. e.ty };
 
-    ghost invariant = { λ e. e.sign ≡ constant (codes "=") (equality_type e.ty) };
+    ghost invariant = { λ e. (e.sign ≡ constant (codes "=") (equality_type e.ty)) × (e.property ≡ fun_type e.ty bool_type) × (e.truth ≡ bool_type) };
 }
 
 impl Equality {
@@ -39,19 +41,15 @@ impl Equality {
     pub fn at(alloc: Global, ty: &Ty) -> Result<Equality, AllocError>
         ensures { IfOk result (λ equality. equality ≡ ty.now) }
     {
-        let sign_type = equality_type(alloc, ty)?;
-        let sign = constant_named(alloc, "=", &sign_type)?;
-        let ty = ty.copy()?;
-        Ok(Equality { ty, sign })
-    }
-
-    /// The same, sharing its nodes.
-    pub fn copy(&self) -> Result<Equality, AllocError>
-        ensures { IfOk result (λ equality. equality ≡ self.now) }
-    {
+        let truth = bool_beside(alloc, ty)?;
+        let property = Ty::fun(alloc, ty, &truth)?;
+        let sign_type = Ty::fun(alloc, ty, &property)?;
+        let name = Name::known(KnownName::Equality);
         Ok(Equality {
-            ty: self.ty.copy()?,
-            sign: self.sign.copy()?,
+            ty: ty.copy()?,
+            sign: Term::constant(alloc, &name, &sign_type)?,
+            property,
+            truth,
         })
     }
 
@@ -63,23 +61,35 @@ impl Equality {
     }
 
     // The constant.
-    #[tactic(auto, using(crate::proofs::Signs::sign_typed))]
     fn sign(&self) -> &Term
-        ensures is { result.now ≡ constant (codes "=") (equality_type self.now) }
-        ensures typed { named_type result.now ≡ Some (fun_type self.now (fun_type self.now bool_type)) }
+        ensures { result.now ≡ constant (codes "=") (equality_type self.now) }
     {
         &self.sign
     }
 
-    /// `left = right`, for two terms of its type.
-    #[tactic(auto, using(crate::proofs::PartTypes::applications))]
+    // The type of the constant with a left side.
+    fn property(&self) -> &Ty
+        ensures { result.now ≡ fun_type self.now bool_type }
+    {
+        &self.property
+    }
+
+    // `bool`.
+    fn truth(&self) -> &Ty
+        ensures { result.now ≡ bool_type }
+    {
+        &self.truth
+    }
+
+    /// `left = right`, for two terms of its type. No types are compared.
+    #[tactic(auto, using(crate::proofs::Signs::half_type, crate::proofs::Signs::whole_type))]
     pub fn between(&self, alloc: Global, left: &Term, right: &Term) -> Result<Term, AllocError>
         requires left { named_type left.now ≡ Some self.now }
         requires right { named_type right.now ≡ Some self.now }
         ensures is { IfOk result (λ t. t ≡ mk_eq self.now left.now right.now) }
         ensures typed { IfOk result (λ t. named_type t ≡ Some bool_type) }
     {
-        let applied = Term::application(alloc, self.sign(), left)?;
-        Term::application(alloc, &applied, right)
+        let applied = Term::application_to(alloc, self.sign(), left, self.property())?;
+        Term::application_to(alloc, &applied, right, self.truth())
     }
 }

@@ -6,9 +6,9 @@ ghost use Rattle.hol_formulas.specs.Equation.{bool_type, equality_type, mk_eq, d
 ghost use Rattle.hol_formulas.specs.Making.{mk_iff};
 
 use crate::equality::Equality;
-use crate::types::{bool_type, is_equality_at, is_property_type};
+use crate::types::{bool_type, is_property_type};
 use hol_terms::{Term, TermNode};
-use hol_types::Ty;
+use hol_types::{KnownName, Ty};
 use std::alloc::{AllocError, Global};
 
 /// `left = right`, for two terms of the type.
@@ -22,57 +22,8 @@ pub fn mk_eq(alloc: Global, ty: &Ty, left: &Term, right: &Term) -> Result<Term, 
     equality.between(alloc, left, right)
 }
 
-/// [`mk_eq`], beside an equation: where `like` is one of terms of the type, and its left side has the node of `left`, its operator with
-/// that side is shared.
-#[tactic(auto, using(crate::proofs::PartTypes::applications, crate::proofs::Signs::half_typed))]
-pub fn mk_eq_like(
-    alloc: Global,
-    like: &Term,
-    ty: &Ty,
-    left: &Term,
-    right: &Term,
-) -> Result<Term, AllocError>
-    requires left { named_type left.now ≡ Some ty.now }
-    requires right { named_type right.now ≡ Some ty.now }
-    ensures is { IfOk result (λ t. t ≡ mk_eq ty.now left.now right.now) }
-    ensures typed { IfOk result (λ t. named_type t ≡ Some bool_type) }
-{
-    match shared_half(like, ty, left) {
-        Some(applied) => Term::application(alloc, applied, right),
-        None => mk_eq(alloc, ty, left, right),
-    }
-}
-
-// The operator with the left side, of an equation of terms of the type whose left side has the node of `left`.
-fn shared_half<'a>(like: &'a Term, ty: &Ty, left: &Term) -> Option<&'a Term>
-    ensures { IfSome result (λ half. half.now ≡ comb (constant (codes "=") (equality_type ty.now)) left.now) }
-{
-    let TermNode::Comb(applied, _) = like.node() else {
-        return None;
-    };
-    let TermNode::Comb(sign, own) = applied.node() else {
-        return None;
-    };
-    if own.same_node(left) && is_sign(sign, ty) {
-        Some(applied)
-    } else {
-        None
-    }
-}
-
-// Whether the term is `=` between terms of the type.
-#[tactic(auto, using(crate::proofs::TypeTests::same_type))]
-fn is_sign(sign: &Term, ty: &Ty) -> bool
-    ensures { IsTrue result → sign.now ≡ constant (codes "=") (equality_type ty.now) }
-{
-    let TermNode::Const(name, sign_type) = sign.node() else {
-        return false;
-    };
-    name.as_str() == "=" && is_equality_at(sign_type, ty)
-}
-
 /// `p <=> q`: the equation of two terms of type `bool`.
-pub fn mk_iff(alloc: Global, p: &Term, q: &Term) -> Result<Term, AllocError>
+pub(crate) fn mk_iff(alloc: Global, p: &Term, q: &Term) -> Result<Term, AllocError>
     requires first { named_type p.now ≡ Some bool_type }
     requires second { named_type q.now ≡ Some bool_type }
     ensures is { IfOk result (λ t. t ≡ mk_iff p.now q.now) }
@@ -82,7 +33,7 @@ pub fn mk_iff(alloc: Global, p: &Term, q: &Term) -> Result<Term, AllocError>
     mk_eq(alloc, &ty, p, q)
 }
 
-/// The sides of an equation and their type.
+/// The sides of an equation and their type, and what it is made with.
 #[derive(Clone, Copy)]
 pub struct Sides<'a> {
     /// The type of both sides.
@@ -91,6 +42,10 @@ pub struct Sides<'a> {
     pub left: &'a Term,
     /// The right side.
     pub right: &'a Term,
+    /// `=` between terms of the type.
+    pub sign: &'a Term,
+    /// `=` with the left side.
+    pub half: &'a Term,
 }
 
 /// The sides of the term, and `None` where it is no equation.
@@ -99,26 +54,42 @@ pub fn dest_eq(term: &Term) -> Option<Sides<'_>>
     ensures sides { MatchOption result (dest_eq (nameless [] term.now) ≡ None) (λ x. dest_eq (nameless [] term.now) ≡ Some (record { sides_type = x.ty.now; left = nameless [] x.left.now; right = nameless [] x.right.now })) }
     ensures left { IfSome result (λ x. named_type x.left.now ≡ Some x.ty.now) }
     ensures right { IfSome result (λ x. named_type x.right.now ≡ Some x.ty.now) }
+    ensures sign { IfSome result (λ x. x.sign.now ≡ constant (codes "=") (equality_type x.ty.now)) }
+    ensures half { IfSome result (λ x. x.half.now ≡ comb (constant (codes "=") (equality_type x.ty.now)) x.left.now) }
 {
     let _ty = term.type_of();
-    let TermNode::Comb(applied, right) = term.node() else {
+    let TermNode::Comb(half, right) = term.node() else {
         return None;
     };
-    let TermNode::Comb(equality, left) = applied.node() else {
+    let TermNode::Comb(sign, left) = half.node() else {
         return None;
     };
-    let TermNode::Const(name, ty) = equality.node() else {
+    let TermNode::Const(name, ty) = sign.node() else {
         return None;
     };
     let (domain, property) = ty.dest_fun()?;
-    if name.as_str() != "=" || !is_property_type(property, domain) {
+    if !name.is(KnownName::Equality) || !is_property_type(property, domain) {
         return None;
     }
     Some(Sides {
         ty: domain,
         left,
         right,
+        sign,
+        half,
     })
+}
+
+/// The equation of the left side of one with another term of its type. It shares `=` with the left side.
+#[tactic(auto, using(crate::proofs::PartTypes::applications, crate::proofs::Signs::half_typed))]
+pub fn mk_eq_from(alloc: Global, x: Sides<'_>, right: &Term) -> Result<Term, AllocError>
+    requires half { x.half.now ≡ comb (constant (codes "=") (equality_type x.ty.now)) x.left.now }
+    requires left { named_type x.left.now ≡ Some x.ty.now }
+    requires right { named_type right.now ≡ Some x.ty.now }
+    ensures is { IfOk result (λ t. t ≡ mk_eq x.entry.ty.now x.entry.left.now right.now) }
+    ensures typed { IfOk result (λ t. named_type t ≡ Some bool_type) }
+{
+    Term::application(alloc, x.half, right)
 }
 
 /// Whether the term is an equation.

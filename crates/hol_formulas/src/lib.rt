@@ -26,7 +26,7 @@ pub use connectives::{
     is_truth, mk_conj, mk_disj, mk_falsity, mk_imp, mk_neg, mk_truth,
 };
 pub use equality::Equality;
-pub use equations::{Sides, dest_eq, is_eq, mk_eq, mk_eq_like, mk_iff};
+pub use equations::{Sides, dest_eq, is_eq, mk_eq, mk_eq_from};
 pub use laws::{formulas_have_parts, parts_make_formulas};
 pub use names::{has_axiom_name, has_constant_name, has_type_name};
 pub use postulate::Postulate;

@@ -41,8 +41,7 @@ pub(crate) fn function_property_type(alloc: Global) -> Result<Ty, AllocError>
 pub fn is_instance(alloc: Global, generic: &Ty, ty: &Ty) -> Result<bool, AllocError>
     ensures { IfOk result (λ is. is ≡ is_instance generic.now ty.now) }
 {
-    let found = generic.match_to(alloc, ty)?;
-    Ok(found.is_some())
+    generic.matches(alloc, ty)
 }
 
 /// Whether the prelude has the constant, and the type is an instance of its generic type.

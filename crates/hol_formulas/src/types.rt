@@ -6,26 +6,23 @@ ghost use Rattle.hol_types.specs.Fun.{fun_type};
 ghost use Rattle.hol_formulas.specs.Equation.{bool_type, equality_type};
 ghost use Rattle.hol_formulas.specs.Formula.{negation_type, connective_type, quantifier_type};
 
-use hol_types::{Name, Ty, TyNode};
+use hol_types::{KnownName, Name, Ty};
 use std::alloc::{AllocError, Global};
 
 /// The type of truth values.
 pub fn bool_type(alloc: Global) -> Result<Ty, AllocError>
     ensures { IfOk result (λ ty. ty ≡ bool_type) }
 {
-    let name = Name::new(alloc, "bool")?;
+    let name = Name::known(KnownName::BoolType);
     Ty::app(alloc, &name, &[])
 }
 
 /// Whether the type is that of truth values.
-#[tactic(auto, using(crate::proofs::TypeTests::bool_types))]
+#[tactic(auto, using(crate::proofs::TypeTests::truth_test))]
 pub fn is_bool(ty: &Ty) -> bool
     ensures { result ≡ type_eq ty.now bool_type }
 {
-    match ty.node() {
-        TyNode::Var(_) => false,
-        TyNode::App(name, args) => name.as_str() == "bool" && args.is_empty(),
-    }
+    ty.is_bool()
 }
 
 /// The type variable of this name.
@@ -36,9 +33,9 @@ pub fn type_variable(alloc: Global, name: &str) -> Result<Ty, AllocError>
     Ty::var(alloc, &name)
 }
 
-// `bool`, which shares the nodes of the given type where it is `bool`.
+/// `bool`, which shares the nodes of the given type where it is `bool`.
 #[tactic(auto, using(crate::proofs::TypeTests::same_type))]
-fn bool_beside(alloc: Global, ty: &Ty) -> Result<Ty, AllocError>
+pub(crate) fn bool_beside(alloc: Global, ty: &Ty) -> Result<Ty, AllocError>
     ensures { IfOk result (λ truth. truth ≡ bool_type) }
 {
     if is_bool(ty) {
@@ -91,17 +88,6 @@ pub(crate) fn is_property_type(ty: &Ty, domain: &Ty) -> bool
         return false;
     };
     own.same(domain) && is_bool(truth)
-}
-
-/// Whether the type is that of `=` between terms of the type `domain`.
-#[tactic(auto, using(crate::proofs::TypeTests::function_types))]
-pub(crate) fn is_equality_at(ty: &Ty, domain: &Ty) -> bool
-    ensures { result ≡ type_eq ty.now (equality_type domain.now) }
-{
-    let Some((own, property)) = ty.dest_fun() else {
-        return false;
-    };
-    own.same(domain) && is_property_type(property, domain)
 }
 
 /// Whether the type is `bool->bool`.

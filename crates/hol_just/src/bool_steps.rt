@@ -45,7 +45,10 @@ fn conjunction_with(
     let Some(right) = thms.take() else {
         unreachable!()
     };
-    let thm = lemmas.conj(alloc, &left, &right)?;
+    let made = lemmas.conj(alloc, &left, &right);
+    drop(left);
+    drop(right);
+    let thm = made?;
     thms.put(thm)
 }
 
@@ -64,7 +67,9 @@ pub(crate) fn left_disjunct(
     let Some(left) = thms.take() else {
         unreachable!()
     };
-    let thm = lemmas.disj1(alloc, &left, q)?;
+    let made = lemmas.disj1(alloc, &left, q);
+    drop(left);
+    let thm = made?;
     thms.put(thm)
 }
 
@@ -83,7 +88,9 @@ pub(crate) fn right_disjunct(
     let Some(right) = thms.take() else {
         unreachable!()
     };
-    let thm = lemmas.disj2(alloc, p, &right)?;
+    let made = lemmas.disj2(alloc, p, &right);
+    drop(right);
+    let thm = made?;
     thms.put(thm)
 }
 
@@ -102,7 +109,9 @@ pub(crate) fn discharge(
     let Some(consequent) = thms.take() else {
         unreachable!()
     };
-    let thm = lemmas.disch(alloc, p, &consequent)?;
+    let made = lemmas.disch(alloc, p, &consequent);
+    drop(consequent);
+    let thm = made?;
     thms.put(thm)
 }
 
@@ -120,7 +129,9 @@ pub(crate) fn undischarge(
     let Some(implication) = thms.take() else {
         unreachable!()
     };
-    let thm = lemmas.undisch(alloc, &implication)?;
+    let made = lemmas.undisch(alloc, &implication);
+    drop(implication);
+    let thm = made?;
     thms.put(thm)
 }
 
@@ -138,7 +149,9 @@ pub(crate) fn negation(
     let Some(implication) = thms.take() else {
         unreachable!()
     };
-    let thm = lemmas.not_intro(alloc, &implication)?;
+    let made = lemmas.not_intro(alloc, &implication);
+    drop(implication);
+    let thm = made?;
     thms.put(thm)
 }
 
@@ -175,7 +188,10 @@ fn modus_ponens_with(
     let Some(premise) = thms.take() else {
         unreachable!()
     };
-    let thm = lemmas.mp(alloc, &implication, &premise)?;
+    let made = lemmas.mp(alloc, &implication, &premise);
+    drop(implication);
+    drop(premise);
+    let thm = made?;
     thms.put(thm)
 }
 
@@ -194,7 +210,9 @@ pub(crate) fn contradiction(
     let Some(falsity) = thms.take() else {
         unreachable!()
     };
-    let thm = lemmas.contr(alloc, p, &falsity)?;
+    let made = lemmas.contr(alloc, p, &falsity);
+    drop(falsity);
+    let thm = made?;
     thms.put(thm)
 }
 
@@ -213,7 +231,9 @@ pub(crate) fn generalization(
     let Some(property) = thms.take() else {
         unreachable!()
     };
-    let thm = lemmas.generalize(alloc, v, &property)?;
+    let made = lemmas.generalize(alloc, v, &property);
+    drop(property);
+    let thm = made?;
     thms.put(thm)
 }
 
@@ -233,6 +253,8 @@ pub(crate) fn existence(
     let Some(property) = thms.take() else {
         unreachable!()
     };
-    let thm = lemmas.exists(alloc, e, t, &property)?;
+    let made = lemmas.exists(alloc, e, t, &property);
+    drop(property);
+    let thm = made?;
     thms.put(thm)
 }

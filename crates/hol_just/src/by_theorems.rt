@@ -41,9 +41,8 @@ impl Just {
     {
         conclusion_typed(th);
         let closing = Just::accept_tac(alloc, th)?;
-        let mut just = Just::conjunct1(alloc)?;
-        just.then_at(0, &closing)?;
-        Ok(just)
+        let just = Just::conjunct1(alloc)?;
+        just.joined(0, closing)
     }
 
     // That of closing `q` by this theorem `p /\ q`.
@@ -52,9 +51,8 @@ impl Just {
     {
         conclusion_typed(th);
         let closing = Just::accept_tac(alloc, th)?;
-        let mut just = Just::conjunct2(alloc)?;
-        just.then_at(0, &closing)?;
-        Ok(just)
+        let just = Just::conjunct2(alloc)?;
+        just.joined(0, closing)
     }
 
     /// That of leaving `r` with `q` and `p` assumed, of `r`, by this theorem `p /\ q`.
@@ -63,13 +61,12 @@ impl Just {
     {
         conclusion_typed(th);
         let left = Just::left_of(alloc, th)?;
-        let right = Just::right_of(alloc, th)?;
+        let just = Just::prove_hyp(alloc)?;
+        let just = just.joined(0, left)?;
         let cutting = Just::prove_hyp(alloc)?;
-        let mut just = Just::prove_hyp(alloc)?;
-        just.then_at(0, &left)?;
-        just.then_at(0, &cutting)?;
-        just.then_at(0, &right)?;
-        Ok(just)
+        let just = just.joined(0, cutting)?;
+        let right = Just::right_of(alloc, th)?;
+        just.joined(0, right)
     }
 
     /// That of leaving `p \/ q`, `r` with `p` assumed, and `r` with `q` assumed, of `r`.
@@ -85,9 +82,8 @@ impl Just {
     {
         conclusion_typed(th);
         let closing = Just::accept_tac(alloc, th)?;
-        let mut just = Just::disj_cases(alloc)?;
-        just.then_at(0, &closing)?;
-        Ok(just)
+        let just = Just::disj_cases(alloc)?;
+        just.joined(0, closing)
     }
 
     /// That of leaving `t = s` of `s = t`.
@@ -144,8 +140,7 @@ impl Just {
     {
         conclusion_typed(th);
         let closing = Just::accept_tac(alloc, th)?;
-        let mut just = Just::choose(alloc, v)?;
-        just.then_at(0, &closing)?;
-        Ok(just)
+        let just = Just::choose(alloc, v)?;
+        just.joined(0, closing)
     }
 }

@@ -38,7 +38,9 @@ pub(crate) fn conversion(
     let Some(converted) = thms.take() else {
         unreachable!()
     };
-    let thm = converted_back(alloc, trace, &converted, lemmas)?;
+    let made = converted_back(alloc, trace, &converted, lemmas);
+    drop(converted);
+    let thm = made?;
     thms.put(thm)
 }
 
@@ -55,6 +57,10 @@ fn converted_back(
     ensures kept { lemmas.new ≡ lemmas.old }
 {
     let equation = replay(alloc, lemmas, converted.basis(), trace)?;
-    let back = made_in_equal(sym(alloc, &equation))?;
-    made_in_kernel(Thm::eq_mp(alloc, &back, converted))
+    let turned = made_in_equal(sym(alloc, &equation));
+    drop(equation);
+    let back = turned?;
+    let made = made_in_kernel(Thm::eq_mp(alloc, &back, converted));
+    drop(back);
+    made
 }

@@ -25,7 +25,9 @@ pub(crate) fn left_conjunct(
     let Some(both) = thms.take() else {
         unreachable!()
     };
-    let thm = lemmas.conjunct1(alloc, &both)?;
+    let made = lemmas.conjunct1(alloc, &both);
+    drop(both);
+    let thm = made?;
     thms.put(thm)
 }
 
@@ -43,7 +45,9 @@ pub(crate) fn right_conjunct(
     let Some(both) = thms.take() else {
         unreachable!()
     };
-    let thm = lemmas.conjunct2(alloc, &both)?;
+    let made = lemmas.conjunct2(alloc, &both);
+    drop(both);
+    let thm = made?;
     thms.put(thm)
 }
 
@@ -62,7 +66,9 @@ pub(crate) fn specialization(
     let Some(each) = thms.take() else {
         unreachable!()
     };
-    let thm = lemmas.spec(alloc, t, &each)?;
+    let made = lemmas.spec(alloc, t, &each);
+    drop(each);
+    let thm = made?;
     thms.put(thm)
 }
 
@@ -101,7 +107,10 @@ fn choice_with(
     let Some(chosen) = thms.take() else {
         unreachable!()
     };
-    let thm = lemmas.choose(alloc, v, &existence, &chosen)?;
+    let made = lemmas.choose(alloc, v, &existence, &chosen);
+    drop(existence);
+    drop(chosen);
+    let thm = made?;
     thms.put(thm)
 }
 
@@ -155,6 +164,10 @@ fn cases_of(
     let Some(right) = thms.take() else {
         unreachable!()
     };
-    let thm = lemmas.disj_cases(alloc, &either, &left, &right)?;
+    let made = lemmas.disj_cases(alloc, &either, &left, &right);
+    drop(either);
+    drop(left);
+    drop(right);
+    let thm = made?;
     thms.put(thm)
 }

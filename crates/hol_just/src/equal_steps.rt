@@ -21,7 +21,9 @@ pub(crate) fn symmetry(alloc: Global, thms: &mut Cursor) -> Result<(), AllocErro
     let Some(equation) = thms.take() else {
         unreachable!()
     };
-    let thm = made_in_equal(sym(alloc, &equation))?;
+    let made = made_in_equal(sym(alloc, &equation));
+    drop(equation);
+    let thm = made?;
     thms.put(thm)
 }
 
@@ -56,7 +58,10 @@ fn replacement_with(
     let Some(at_left) = thms.take() else {
         unreachable!()
     };
-    let thm = made_in_equal(subst(alloc, &equation, v, m, &at_left))?;
+    let made = made_in_equal(subst(alloc, &equation, v, m, &at_left));
+    drop(equation);
+    drop(at_left);
+    let thm = made?;
     thms.put(thm)
 }
 
@@ -80,6 +85,9 @@ fn cut_with(alloc: Global, lemma: Thm, thms: &mut Cursor) -> Result<(), AllocErr
     let Some(under) = thms.take() else {
         unreachable!()
     };
-    let thm = prove_hyp(alloc, &lemma, &under)?;
+    let made = prove_hyp(alloc, &lemma, &under);
+    drop(lemma);
+    drop(under);
+    let thm = made?;
     thms.put(thm)
 }

@@ -62,6 +62,15 @@ impl Just {
         add_moves(&mut self.moves, place, more.moves())
     }
 
+    /// The moves, and then those of another justification, whose first goal stands at a place.
+    pub(crate) fn joined(self, place: usize, more: Just) -> Result<Just, AllocError>
+        ensures { IfOk result (λ just. just ≡ self ++ moved place more) }
+    {
+        let mut just = self;
+        just.then_at(place, &more)?;
+        Ok(just)
+    }
+
     /// An equal justification.
     pub fn copy(&self, alloc: Global) -> Result<Just, AllocError>
         ensures { IfOk result (λ just. just ≡ self.now) }

@@ -1,6 +1,8 @@
 //! Justifications: theorems of goals from theorems of the goals that were left of them.
 //!
 //! Calls that answer a `Result` answer its memory error where memory is short, and nowhere else.
+//!
+//! A theorem that was used is let go by a call of `drop`: where a scope ends with it, a check goes through the drops of all its parts.
 #![tactic(auto)]
 
 mod assuming;

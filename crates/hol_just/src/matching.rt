@@ -33,12 +33,11 @@ impl Just {
         requires conclusion { named_type conclusion.now ≡ Some bool_type }
         ensures { IfOk result (λ just. LeavesPremise th.now (bound_variables formula.now) variables.now (nameless [] premise.now) (nameless [] conclusion.now) just) }
     {
-        let instance = mk_imp(alloc, premise, conclusion)?;
-        let closing = Just::instance(alloc, th, formula, &instance)?;
+        let closing = by_instance(alloc, th, formula, premise, conclusion)?;
         let chosen = chosen(alloc, variables, premise, closing)?;
         let assuming = Just::disch_tac(alloc, &chosen.whole)?;
-        let mut just = Just::mp(alloc)?;
-        just.then_at(0, &assuming)?;
+        let just = Just::mp(alloc)?;
+        let mut just = just.joined(0, assuming)?;
         just.then_at(0, &chosen.just)?;
         Ok(just)
     }
@@ -47,11 +46,27 @@ impl Just {
     pub fn instance(alloc: Global, th: &Given, formula: &Term, t: &Term) -> Result<Just, AllocError>
         ensures { IfOk result (λ just. ClosesByInstance th.now (bound_variables formula.now) (nameless [] t.now) just) }
     {
-        let given = th.copy()?;
         let named = formula.copy()?;
         let instance = t.copy()?;
+        let given = th.copy()?;
         Just::one(alloc, Reason::Matching(given, named, instance))
     }
+}
+
+// That of closing `premise ==> conclusion`, an instance of what stands under the theorem's outer quantifiers.
+fn by_instance(
+    alloc: Global,
+    th: &Given,
+    formula: &Term,
+    premise: &Term,
+    conclusion: &Term,
+) -> Result<Just, AllocError>
+    requires premise { named_type premise.now ≡ Some bool_type }
+    requires conclusion { named_type conclusion.now ≡ Some bool_type }
+    ensures { IfOk result (λ just. ClosesByInstance th.now (bound_variables formula.now) (implication (nameless [] premise.now) (nameless [] conclusion.now)) just) }
+{
+    let whole = mk_imp(alloc, premise, conclusion)?;
+    Just::instance(alloc, th, formula, &whole)
 }
 
 // That p holds for some values of the variables, and the moves that close a goal with that as its newest assumption.

@@ -35,7 +35,9 @@ pub(crate) fn matching(
 {
     let whole = made_in_kernel(given.over(alloc, thms.basis()))?;
     let body = specialized(alloc, formula, whole, lemmas)?;
-    let thm = instance_like(alloc, t, &body)?;
+    let made = instance_like(alloc, t, &body);
+    drop(body);
+    let thm = made?;
     thms.put(thm)
 }
 
@@ -55,7 +57,9 @@ fn specialized(
         return Ok(th);
     };
     let variable = occurrence(alloc, v)?;
-    let instance = lemmas.spec(alloc, &variable, &th)?;
+    let made = lemmas.spec(alloc, &variable, &th);
+    drop(th);
+    let instance = made?;
     specialized(alloc, body, instance, lemmas)
 }
 
@@ -84,5 +88,7 @@ fn instance_like(alloc: Global, t: &Term, th: &Thm) -> Result<Thm, AllocError>
         unreachable!()
     };
     let typed = made_in_kernel(Thm::inst_type(alloc, found.types(), th))?;
-    made_in_kernel(Thm::inst(alloc, found.terms(), &typed))
+    let made = made_in_kernel(Thm::inst(alloc, found.terms(), &typed));
+    drop(typed);
+    made
 }

@@ -127,9 +127,9 @@ fn replacement(v: &Term, m: &Term) -> Result<Reason, AllocError>
 fn matching(given: &Given, formula: &Term, t: &Term) -> Result<Reason, AllocError>
     ensures { IfOk result (λ reason. reason ≡ Matching given.now formula.now t.now) }
 {
-    let th = given.copy()?;
     let named = formula.copy()?;
-    Ok(Reason::Matching(th, named, t.copy()?))
+    let term = t.copy()?;
+    Ok(Reason::Matching(given.copy()?, named, term))
 }
 
 impl Move {

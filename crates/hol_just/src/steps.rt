@@ -101,7 +101,10 @@ fn combination_with(alloc: Global, functions: Thm, thms: &mut Cursor) -> Result<
     let Some(arguments) = thms.take() else {
         unreachable!()
     };
-    let thm = made_in_kernel(Thm::mk_comb(alloc, &functions, &arguments))?;
+    let made = made_in_kernel(Thm::mk_comb(alloc, &functions, &arguments));
+    drop(functions);
+    drop(arguments);
+    let thm = made?;
     thms.put(thm)
 }
 
@@ -124,6 +127,9 @@ fn antisymmetry_with(alloc: Global, there: Thm, thms: &mut Cursor) -> Result<(),
     let Some(back) = thms.take() else {
         unreachable!()
     };
-    let thm = Thm::deduct_antisym(alloc, &back, &there)?;
+    let made = Thm::deduct_antisym(alloc, &back, &there);
+    drop(there);
+    drop(back);
+    let thm = made?;
     thms.put(thm)
 }

@@ -39,9 +39,8 @@ impl Just {
         ensures { IfOk result (λ just. LeavesArguments (nameless [] function.now) just) }
     {
         let closing = Just::refl_tac(alloc, function)?;
-        let mut just = Just::mk_comb_tac(alloc)?;
-        just.then_at(0, &closing)?;
-        Ok(just)
+        let just = Just::mk_comb_tac(alloc)?;
+        just.joined(0, closing)
     }
 
     /// That of AP_THM_TAC, where both sides are functions of this argument: AP_THM is MK_COMB of its reflexivity.
@@ -49,9 +48,8 @@ impl Just {
         ensures { IfOk result (λ just. LeavesFunctions (nameless [] argument.now) just) }
     {
         let closing = Just::refl_tac(alloc, argument)?;
-        let mut just = Just::mk_comb_tac(alloc)?;
-        just.then_at(1, &closing)?;
-        Ok(just)
+        let just = Just::mk_comb_tac(alloc)?;
+        just.joined(1, closing)
     }
 
     /// That of leaving `q`, with `p` assumed, and `p`, with `q` assumed, of `p <=> q`.
@@ -112,9 +110,8 @@ impl Just {
         ensures { IfOk result (λ just. LeavesRefutation (nameless [] denied.now) just) }
     {
         let assuming = Just::disch_tac(alloc, denied)?;
-        let mut just = Just::not_intro(alloc)?;
-        just.then_at(0, &assuming)?;
-        Ok(just)
+        let just = Just::not_intro(alloc)?;
+        just.joined(0, assuming)
     }
 
     /// That of UNDISCH_TAC.
@@ -137,9 +134,8 @@ impl Just {
     {
         conclusion_typed(th);
         let closing = Just::accept_tac(alloc, th)?;
-        let mut just = Just::mp(alloc)?;
-        just.then_at(1, &closing)?;
-        Ok(just)
+        let just = Just::mp(alloc)?;
+        just.joined(1, closing)
     }
 
     /// That of ASSUME_TAC by this theorem: MP_TAC leaves an implication from it, and of that what it assumes.
@@ -147,9 +143,8 @@ impl Just {
         ensures { IfOk result (λ just. LeavesAssuming th.now just) }
     {
         let assuming = Just::disch_tac(alloc, th.concl())?;
-        let mut just = Just::mp_tac(alloc, th)?;
-        just.then_at(0, &assuming)?;
-        Ok(just)
+        let just = Just::mp_tac(alloc, th)?;
+        just.joined(0, assuming)
     }
 
     /// That of leaving `F` of this formula.
@@ -164,9 +159,8 @@ impl Just {
         ensures { IfOk result (λ just. ClosesByFalsity (nameless [] conclusion.now) th.now just) }
     {
         let closing = Just::accept_tac(alloc, th)?;
-        let mut just = Just::contr(alloc, conclusion)?;
-        just.then_at(0, &closing)?;
-        Ok(just)
+        let just = Just::contr(alloc, conclusion)?;
+        just.joined(0, closing)
     }
 
     /// That of GEN_TAC and X_GEN_TAC, which leave the property at this variable.

@@ -7,10 +7,10 @@ use Rattle.std.proofs.lemmas.Slice.Eq.{bytes_eq-Decides}
 use Rattle.hol_types.specs.Tree.{TypeTree, TypeList, TyVar, TyApp, no_types, more_types}
 use Rattle.hol_types.specs.Fun.{fun_type, fun_parts}
 use Rattle.hol_types.specs.Equal.{type_eq}
-use Rattle.hol_types.specs.Basic.{is_basic_constructor, arguments, is_basic, are_basic}
+use Rattle.hol_types.specs.Basic.{is_basic_constructor, arguments, is_basic, are_basic, is_bool}
 use Rattle.hol_types.proofs.OrderLaws.{type_cmp_decides}
 use Rattle.hol_terms.specs.Named.{Named, var, constant, comb, abs}
-use Rattle.hol_terms.specs.Basic.{is_truth, is_property, is_predicate, is_equality, is_choice, is_negation, is_connective, is_binder, is_function_property, basic_constants, has_form, is_basic_constant, is_basic_term}
+use Rattle.hol_terms.specs.Basic.{is_property, is_predicate, is_equality, is_choice, is_negation, is_connective, is_binder, is_function_property, basic_constants, has_form, is_basic_constant, is_basic_term}
 use Rattle.hol_formulas.specs.Equation.{bool_type, equality_type}
 use Rattle.hol_formulas.specs.Formula.{negation_type, connective_type}
 use Rattle.hol_formulas.specs.Constants.{prelude_types, prelude_constants, is_constructor, var_a, binder_type, choice_type, function_property_type, is_instance, generic_in, prelude_generic, is_instance_of}
@@ -43,7 +43,7 @@ mutual
       and_from (is_type items t) (are_types items ts) (basic_type items t both.0) (basic_types items ts both.1)
 
 -- ---- the forms
-truth_is : (t : TypeTree) → is_truth t ≡ true → t ≡ bool_type
+truth_is : (t : TypeTree) → is_bool t ≡ true → t ≡ bool_type
 truth_is (TyVar a) e = absurd (cc)
 truth_is (TyApp c no_types) e = let both = and_parts (bytes_eq c (codes "bool")) true e in ap (λ d. TyApp d no_types) ((bytes_eq-Decides c (codes "bool")).0 both.0)
 truth_is (TyApp c (more_types t ts)) e = let both = and_parts (bytes_eq c (codes "bool")) false e in let f : false ≡ true = both.1 in absurd (cc)
@@ -54,7 +54,7 @@ property_is t a e = by (fun_parts t) refl e
     by : (o : Option (TypeTree × TypeTree)) → fun_parts t ≡ o → is_property a o ≡ true → t ≡ fun_type a bool_type
     by None f g = absurd (cc)
     by (Some p) f g =
-        let both = and_parts (type_eq p.0 a) (is_truth p.1) g in
+        let both = and_parts (type_eq p.0 a) (is_bool p.1) g in
         let own : p.0 ≡ a = (type_cmp_decides p.0 a).0 both.0 in
         let truth : p.1 ≡ bool_type = truth_is p.1 both.1 in
         fun_parts_is t p f ∙ (λ i. fun_type (own i) (truth i))
@@ -65,7 +65,7 @@ negation_is t e = by (fun_parts t) refl e
     by : (o : Option (TypeTree × TypeTree)) → fun_parts t ≡ o → is_negation o ≡ true → t ≡ negation_type
     by None f g = absurd (cc)
     by (Some p) f g =
-        let both = and_parts (is_truth p.0) (is_truth p.1) g in
+        let both = and_parts (is_bool p.0) (is_bool p.1) g in
         let domain : p.0 ≡ bool_type = truth_is p.0 both.0 in
         let range : p.1 ≡ bool_type = truth_is p.1 both.1 in
         fun_parts_is t p f ∙ (λ i. fun_type (domain i) (range i))
@@ -74,7 +74,7 @@ negation_is t e = by (fun_parts t) refl e
 abbrev Told : (TypeTree → Bool) → TypeTree → Type 0
 Told form generic = (t : TypeTree) → form t ≡ true → is_instance generic t ≡ true
 
-truth_told : Told is_truth bool_type
+truth_told : Told is_bool bool_type
 truth_told t e = instance_of_subst bool_type t [] (sym (truth_is t e))
 
 negation_told : Told (λ t. is_negation (fun_parts t)) negation_type
@@ -86,7 +86,7 @@ connective_told t e = by (fun_parts t) refl e
     by : (o : Option (TypeTree × TypeTree)) → fun_parts t ≡ o → is_connective o ≡ true → is_instance connective_type t ≡ true
     by None f g = absurd (cc)
     by (Some p) f g =
-        let both = and_parts (is_truth p.0) (is_negation (fun_parts p.1)) g in
+        let both = and_parts (is_bool p.0) (is_negation (fun_parts p.1)) g in
         let domain : p.0 ≡ bool_type = truth_is p.0 both.0 in
         let range : p.1 ≡ negation_type = negation_is p.1 both.1 in
         let is : t ≡ connective_type = fun_parts_is t p f ∙ (λ i. fun_type (domain i) (range i)) in
@@ -124,7 +124,7 @@ binder_told t e = by (fun_parts t) refl e
     by : (o : Option (TypeTree × TypeTree)) → fun_parts t ≡ o → is_binder o ≡ true → is_instance binder_type t ≡ true
     by None f g = absurd (cc)
     by (Some p) f g =
-        let both = and_parts (is_predicate (fun_parts p.0)) (is_truth p.1) g in
+        let both = and_parts (is_predicate (fun_parts p.0)) (is_bool p.1) g in
         inside p f (fun_parts p.0) refl both.0 (truth_is p.1 both.1)
 
 function_property_told : Told (λ t. is_function_property (fun_parts t)) function_property_type
@@ -139,7 +139,7 @@ function_property_told t e = by (fun_parts t) refl e
     by : (o : Option (TypeTree × TypeTree)) → fun_parts t ≡ o → is_function_property o ≡ true → is_instance function_property_type t ≡ true
     by None f g = absurd (cc)
     by (Some p) f g =
-        let both = and_parts (is_some (fun_parts p.0)) (is_truth p.1) g in
+        let both = and_parts (is_some (fun_parts p.0)) (is_bool p.1) g in
         inside p f (fun_parts p.0) refl both.0 (truth_is p.1 both.1)
 
 -- ---- constants

@@ -1,15 +1,16 @@
 -- What the rules make of a term that is handed in.
-use Rattle.std.specs.Prelude.{◌≡◌, ℕ, Bool, true, false, cond, not, ◌&&◌, List, [], Option, Some, None, is_some, refl}
+use Rattle.std.specs.Prelude.{◌≡◌, ℕ, Bool, true, false, cond, not, ◌&&◌, List, [], Option, Some, None, is_some, IsSome, refl}
 use Rattle.std.specs.Option.{option_map, option_and_then}
 use Rattle.std.specs.FinSet as set
 use Rattle.std.proofs.Common.{ap, sym, ◌∙◌, subst}
 use Rattle.std.proofs.lemmas.Bool.{and_right}
 use Rattle.std.proofs.Math.Bool.{and-true}
+use mathlib.Core.Bool.{true≢false}
 use Rattle.hol_types.specs.Tree.{TypeTree}
 use Rattle.hol_types.specs.Equal.{type_eq, variable_eq}
 use Rattle.hol_types.specs.Fun.{fun_type, fun_parts}
 use Rattle.hol_types.proofs.OrderLaws.{type_cmp_decides}
-use Rattle.hol_terms.specs.Named.{Named, var, comb, abs, named_type}
+use Rattle.hol_terms.specs.Named.{Named, var, constant, comb, abs, named_type}
 use Rattle.hol_terms.proofs.Same.{variable_eq_decides}
 use Rattle.hol_terms.proofs.Typing.{comb_type, abs_type}
 use Rattle.hol_subst.specs.Closing.{bind, close}
@@ -78,6 +79,16 @@ module _ (basis : Items) (t : Named) (a : TypeTree) (has : named_type t ≡ Some
       let is : a ≡ bool_type = (type_cmp_decides a bool_type).0 e in
       along basis own (only_hyp (nameless [] t)) hyps t concl p q r (by_assume (nameless [] t) (typed_type basis t a has f ∙ ap Some is)) (has ∙ ap Some is)
 
+  -- a formula has the type that its named term has
+  pub formula_type : HasType basis (nameless [] t) bool_type → type_eq a bool_type ≡ true
+  formula_type h =
+      let found : Some a ≡ Some bool_type = sym (typed_type basis t a has (ap is_some h)) ∙ h in
+      let same : a ≡ bool_type = cc in
+      (type_cmp_decides a bool_type).1 same
+
+  pub formula_typed : type_eq a bool_type ≡ true → is_typed basis (nameless [] t) ≡ true → HasType basis (nameless [] t) bool_type
+  formula_typed e f = typed_type basis t a has f ∙ ap Some ((type_cmp_decides a bool_type).0 e)
+
 -- where the term is not well typed nothing is given
 pub refl_none : (basis : Items) (t : Nameless) → is_typed basis t ≡ false → refl_of basis t ≡ None
 refl_none basis t e = by (type_over basis t) e
@@ -136,6 +147,27 @@ module _ (basis : Items) (t : Named) (v w : List ℕ × TypeTree) (b : Named) (a
   beta_derived own hyps concl p q r f =
       along basis own no_hyps hyps (mk_eq a t b) concl p q r
       (subst (λ (u : Named). Derives basis no_hyps (equation a (nameless [] u) (nameless [] b))) (sym is) (beta_derives basis v w b a e redex_typed)) (equation_right a t b has f)
+
+-- What a term is to which the rule applies: the abstraction of v in b, with its own variable.
+pub record IsReduced (basis : Items) (t : Named) (v : List ℕ × TypeTree) (b : Named) : Type 0 where
+  pub argument : List ℕ × TypeTree
+  pub is : t ≡ comb (abs v b) (var argument)
+  pub same : variable_eq v argument ≡ true
+  pub typed : is_typed basis (nameless [] t) ≡ true
+
+pub reduces : (basis : Items) (t : Named) (v : List ℕ × TypeTree) (b x : Named) → t ≡ comb (abs v b) x → IsSome (beta_of basis t) → IsReduced basis t v b
+reduces basis t v b (var w) e h = by (variable_eq v w) refl (is_typed basis (nameless [] t)) refl
+  where
+    none : beta_of basis t ≡ None → IsReduced basis t v b
+    none n = absurd (true≢false (sym (subst IsSome n h)))
+
+    by : (k : Bool) → variable_eq v w ≡ k → (j : Bool) → is_typed basis (nameless [] t) ≡ j → IsReduced basis t v b
+    by false r j s = none (ap (beta_of basis) e ∙ beta_other basis v w b r)
+    by true r false s = none (ap (beta_of basis) e ∙ beta_untyped basis v w b r (sym (ap (λ (u : Named). is_typed basis (nameless [] u)) e) ∙ s))
+    by true r true s = record { argument = w; is = e; same = r; typed = s }
+reduces basis t v b (constant c s) e h = absurd (true≢false (sym (subst (λ (u : Named). IsSome (beta_of basis u)) e h)))
+reduces basis t v b (comb f y) e h = absurd (true≢false (sym (subst (λ (u : Named). IsSome (beta_of basis u)) e h)))
+reduces basis t v b (abs w d) e h = absurd (true≢false (sym (subst (λ (u : Named). IsSome (beta_of basis u)) e h)))
 
 -- ---- typing
 

@@ -26,10 +26,12 @@ pub struct Basis {
     shared: Rc<BasisShared>,
 }
 
-// What the copies of a basis share: its items, and the `=` that a rule last asked for, so that equations of one type share it.
+// What the copies of a basis share: its items, and the `=` between truth values and between terms of another type that rules last asked
+// for, so that equations of one type share it.
 #[derive(Drop)]
 struct BasisShared {
     items: Vec<Item>,
+    equivalence: RefCell<Option<Equality>>,
     equality: RefCell<Option<Equality>>,
 }
 
@@ -55,6 +57,7 @@ impl Basis {
     {
         let shared = BasisShared {
             items,
+            equivalence: RefCell::new(None),
             equality: RefCell::new(None),
         };
         Ok(Basis {
@@ -90,7 +93,8 @@ impl Basis {
         &self.shared.items
     }
 
-    /// `left = right`, for two terms of the type. It has the `=` of the equation before, where that is of the same type.
+    /// `left = right`, for two terms of the type. It has the `=` of the equation before, where that is of the same type, and
+    /// those of truth values have the same `=`.
     pub(crate) fn equation(
         &self,
         alloc: Global,
@@ -103,31 +107,44 @@ impl Basis {
         ensures is { IfOk result (λ t. t ≡ mk_eq ty.now left.now right.now) }
         ensures typed { IfOk result (λ t. named_type t ≡ Some bool_type) }
     {
-        let equality = self.equality(alloc, ty)?;
-        equality.between(alloc, left, right)
-    }
-
-    // `=` between terms of the type. The last one is kept.
-    fn equality(&self, alloc: Global, ty: &Ty) -> Result<Equality, AllocError>
-        ensures { IfOk result (λ equality. equality ≡ ty.now) }
-    {
-        if let Some(kept) = self.kept_equality(ty)? {
-            return Ok(kept);
+        if let Some(made) = self.equation_by_kept(alloc, ty, left, right)? {
+            return Ok(made);
         }
         let equality = Equality::at(alloc, ty)?;
-        let _ = self.shared.equality.try_replace(Some(equality.copy()?));
-        Ok(equality)
+        let made = equality.between(alloc, left, right)?;
+        let _ = self.kept_at(ty).try_replace(Some(equality));
+        Ok(made)
     }
 
-    // The `=` that was kept, if it is between terms of the type.
-    fn kept_equality(&self, ty: &Ty) -> Result<Option<Equality>, AllocError>
-        ensures { IfOk result (λ kept. IfSome kept (λ equality. equality ≡ ty.now)) }
+    // Where the `=` between terms of the type is kept.
+    fn kept_at(&self, ty: &Ty) -> &RefCell<Option<Equality>> {
+        if ty.is_bool() {
+            &self.shared.equivalence
+        } else {
+            &self.shared.equality
+        }
+    }
+
+    // `left = right` by the `=` that is kept, if it is between terms of the type.
+    fn equation_by_kept(
+        &self,
+        alloc: Global,
+        ty: &Ty,
+        left: &Term,
+        right: &Term,
+    ) -> Result<Option<Term>, AllocError>
+        requires left { named_type left.now ≡ Some ty.now }
+        requires right { named_type right.now ≡ Some ty.now }
+        ensures is { IfOk result (λ made. IfSome made (λ t. t ≡ mk_eq ty.now left.now right.now)) }
+        ensures typed { IfOk result (λ made. IfSome made (λ t. named_type t ≡ Some bool_type)) }
     {
-        let Ok(kept) = self.shared.equality.try_borrow() else {
+        let Ok(kept) = self.kept_at(ty).try_borrow() else {
             return Ok(None);
         };
         match &*kept {
-            Some(equality) if equality.is_at(ty) => Ok(Some(equality.copy()?)),
+            Some(equality) if equality.is_at(ty) => {
+                Ok(Some(equality.between(alloc, left, right)?))
+            }
             Some(_) => Ok(None),
             None => Ok(None),
         }

@@ -1,6 +1,6 @@
 //! The primitive rules of HOL Light (fusion.ml) that substitute: types for type variables, and terms for variables, in all terms of a
 //! theorem.
-ghost use Rattle.std.specs.Prelude.{◌≡◌, IfOk, []};
+ghost use Rattle.std.specs.Prelude.{◌≡◌, true, IfOk, Some, []};
 ghost use Rattle.hol_terms.specs.Nameless.{nameless};
 ghost use Rattle.hol_kernel.specs.Typing.{are_types_for};
 ghost use Rattle.hol_kernel.specs.Rules.{inst_type_of, inst_of, is_pair_at, are_pairs_over};
@@ -43,13 +43,22 @@ impl Thm {
         ensures sequent { Gives in_kernel rule.Inst (over a.now.basis (inst_of a.now.basis pairs.now a.now.sequent)) result }
         ensures basis { IfOk result (λ th. th.basis ≡ a.now.basis) }
     {
-        a.promise();
         if !are_pairs(alloc, a.basis(), pairs)? {
             return Err(KernelError::Refused(Rule::Inst));
         }
+        Ok(Thm::inst_typed(alloc, pairs, a)?)
+    }
+
+    /// [`Thm::inst`] by pairs that are known to be such pairs: their terms aren't walked.
+    pub fn inst_typed(alloc: Global, pairs: &[(Term, Term)], a: &Thm) -> Result<Thm, AllocError>
+        requires typed { are_pairs_over a.now.basis pairs.now ≡ true }
+        ensures sequent { IfOk result (λ th. over a.now.basis (inst_of a.now.basis pairs.now a.now.sequent) ≡ Some th) }
+        ensures basis { IfOk result (λ th. th.basis ≡ a.now.basis) }
+    {
+        a.promise();
         let concl = vsubst_good(alloc, pairs, a.concl())?;
         let hyps = a.hypotheses().vsubst(alloc, pairs)?;
-        Ok(Thm::closed(a.basis(), hyps, concl)?)
+        Thm::closed(a.basis(), hyps, concl)
     }
 }
 

@@ -178,6 +178,23 @@ impl Item {
     ) -> Result<bool, AllocError>
         ensures { IfOk result (λ makes. makes ≡ makes_constant constant.now ty.now self.now) }
     {
+        match self.node() {
+            ItemNode::DeclaredConstant(name, generic) => {
+                is_constant_at(alloc, constant, ty, name, generic)
+            }
+            ItemNode::DefinedConstant(name, term) => {
+                is_constant_at(alloc, constant, ty, name, term.type_of())
+            }
+            ItemNode::DefinedType { .. } => self.makes_bijection(alloc, constant, ty),
+            ItemNode::DeclaredType(..) => Ok(false),
+            ItemNode::Axiom(..) => Ok(false),
+        }
+    }
+
+    // As `makes_constant`: a type definition's constants are listed where one has the name.
+    fn makes_bijection(&self, alloc: Global, constant: &Name, ty: &Ty) -> Result<bool, AllocError>
+        ensures { IfOk result (λ makes. makes ≡ makes_constant constant.now ty.now self.now) }
+    {
         if !self.has_name(ItemKind::Constant, constant) {
             return Ok(false);
         }

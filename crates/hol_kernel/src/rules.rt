@@ -1,9 +1,10 @@
 //! The primitive rules of HOL Light (fusion.ml) that need no substitution.
-ghost use Rattle.std.specs.Prelude.{◌≡◌, IfOk, Some, []};
+ghost use Rattle.std.specs.Prelude.{◌≡◌, true, IfOk, IsSome, Some, []};
 ghost use Rattle.hol_types.specs.Fun.{fun_type};
 ghost use Rattle.hol_terms.specs.Named.{abs, comb, named_type};
 ghost use Rattle.hol_formulas.specs.Equation.{bool_type, mk_eq};
 ghost use Rattle.hol_terms.specs.Nameless.{nameless};
+ghost use Rattle.hol_kernel.specs.Typing.{HasType, is_typed};
 ghost use Rattle.hol_kernel.specs.Rules.{refl_of, assume_of, beta_of, trans_of, mk_comb_of, abs_of, eq_mp_of, deduct_antisym_of};
 ghost use Rattle.hol_kernel.specs.Theorem.{theorem_on, over};
 ghost use Rattle.hol_kernel.specs.Gives.{Gives, in_kernel};
@@ -12,7 +13,7 @@ ghost use Rattle.hol_kernel.specs.declared.error.Rule.TheVariants as rule;
 use crate::basis::Basis;
 use crate::error::{KernelError, Rule};
 use crate::thm::Thm;
-use hol_formulas::{Sides, dest_eq, is_bool, mk_eq, mk_eq_like, mk_iff};
+use hol_formulas::{Sides, dest_eq, is_bool, mk_eq_from};
 use hol_subst::Hypotheses;
 use hol_terms::{Term, TermNode, Variable};
 use hol_types::Ty;
@@ -30,14 +31,23 @@ impl Thm {
         if !basis.is_typed(alloc, term)? {
             return Err(KernelError::Refused(Rule::Refl));
         }
+        Ok(Thm::refl_typed(alloc, basis, term)?)
+    }
+
+    /// [`Thm::refl`] of a term that is known to be well typed over the basis: it isn't walked.
+    pub fn refl_typed(alloc: Global, basis: &Basis, term: &Term) -> Result<Thm, AllocError>
+        requires typed { is_typed basis.now (nameless [] term.now) ≡ true }
+        ensures sequent { IfOk result (λ th. over basis.now (refl_of basis.now (nameless [] term.now)) ≡ Some th) }
+        ensures basis { IfOk result (λ th. th.basis ≡ basis.now) }
+    {
         let concl = basis.equation(alloc, term.type_of(), term, term)?;
-        Ok(Thm::unconditional(alloc, basis, concl)?)
+        Thm::unconditional(alloc, basis, concl)
     }
 
     /// The rule of assumption (fusion.ml, ASSUME): `{p} |- p` over the basis.
     ///
     /// Refused by [`Rule::Assume`] where `p` is not well typed over the prelude and the basis, or not of type `bool`.
-    #[tactic(auto, using(crate::proofs::TermRules::assumes))]
+    #[tactic(auto, using(crate::proofs::TermRules::assumes, crate::proofs::TermRules::formula_typed))]
     pub fn assume(alloc: Global, basis: &Basis, p: &Term) -> Result<Thm, KernelError>
         ensures sequent { Gives in_kernel rule.Assume (over basis.now (assume_of basis.now (nameless [] p.now))) result }
         ensures basis { IfOk result (λ th. th.basis ≡ basis.now) }
@@ -45,9 +55,19 @@ impl Thm {
         if !is_bool(p.type_of()) || !basis.is_typed(alloc, p)? {
             return Err(KernelError::Refused(Rule::Assume));
         }
+        Ok(Thm::assume_typed(alloc, basis, p)?)
+    }
+
+    /// [`Thm::assume`] of a term that is known to be well typed over the basis, of type `bool`: it isn't walked.
+    pub fn assume_typed(alloc: Global, basis: &Basis, p: &Term) -> Result<Thm, AllocError>
+        requires typed { HasType basis.now (nameless [] p.now) bool_type }
+        ensures sequent { IfOk result (λ th. over basis.now (assume_of basis.now (nameless [] p.now)) ≡ Some th) }
+        ensures basis { IfOk result (λ th. th.basis ≡ basis.now) }
+    {
+        let _ty = p.type_of();
         let concl = p.copy()?;
         let hyps = Hypotheses::one(alloc, p)?;
-        Ok(Thm::closed(basis, hyps, concl)?)
+        Thm::closed(basis, hyps, concl)
     }
 
     /// The rule of transitivity (fusion.ml, TRANS): from `s = m` and `n = t`, where `m` and `n` are alpha equivalent, `s = t`.
@@ -69,7 +89,7 @@ impl Thm {
         if !x.right.alpha_equivalent(y.left) {
             return Err(KernelError::Refused(Rule::Trans));
         }
-        let concl = mk_eq_like(alloc, a.concl(), x.ty, x.left, y.right)?;
+        let concl = mk_eq_from(alloc, x, y.right)?;
         let hyps = a.hypotheses().union(alloc, b.hypotheses())?;
         Ok(Thm::closed(a.basis(), hyps, concl)?)
     }
@@ -120,7 +140,7 @@ impl Thm {
         if !a.basis().is_type(variable.ty()) || a.hypotheses().has_free(variable) {
             return Err(KernelError::Refused(Rule::Abs));
         }
-        let concl = abstracted(alloc, variable, x)?;
+        let concl = abstracted(alloc, a.basis(), variable, x)?;
         let hyps = a.hypotheses().copy()?;
         Ok(Thm::closed(a.basis(), hyps, concl)?)
     }
@@ -134,10 +154,11 @@ impl Thm {
         ensures sequent { Gives in_kernel rule.Beta (over basis.now (beta_of basis.now redex.now)) result }
         ensures basis { IfOk result (λ th. th.basis ≡ basis.now) }
     {
+        let _ty = redex.type_of();
         let TermNode::Comb(function, argument) = redex.node() else {
             return Err(KernelError::Refused(Rule::Beta));
         };
-        let (TermNode::Abs(v, body), TermNode::Var(w)) = (function.node(), argument.node()) else {
+        let (TermNode::Abs(v, _body), TermNode::Var(w)) = (function.node(), argument.node()) else {
             return Err(KernelError::Refused(Rule::Beta));
         };
         if !v.same(w) {
@@ -146,8 +167,23 @@ impl Thm {
         if !basis.is_typed(alloc, redex)? {
             return Err(KernelError::Refused(Rule::Beta));
         }
+        Ok(Thm::beta_typed(alloc, basis, redex)?)
+    }
+
+    /// [`Thm::beta`] of a term to which it is known to apply: it isn't walked.
+    pub fn beta_typed(alloc: Global, basis: &Basis, redex: &Term) -> Result<Thm, AllocError>
+        requires applies { IsSome (beta_of basis.now redex.now) }
+        ensures sequent { IfOk result (λ th. over basis.now (beta_of basis.now redex.now) ≡ Some th) }
+        ensures basis { IfOk result (λ th. th.basis ≡ basis.now) }
+    {
+        let TermNode::Comb(function, _argument) = redex.node() else {
+            unreachable!()
+        };
+        let TermNode::Abs(_v, body) = function.node() else {
+            unreachable!()
+        };
         let concl = basis.equation(alloc, redex.type_of(), redex, body)?;
-        Ok(Thm::unconditional(alloc, basis, concl)?)
+        Thm::unconditional(alloc, basis, concl)
     }
 
     /// The rule of modus ponens for equations (fusion.ml, EQ_MP): from `l = r` and `m`, where `l` and `m` are alpha equivalent, `r`.
@@ -181,7 +217,9 @@ impl Thm {
         b.promise();
         let first = a.hypotheses().without(alloc, b.concl())?;
         let second = b.hypotheses().without(alloc, a.concl())?;
-        let concl = mk_iff(alloc, a.concl(), b.concl())?;
+        let concl = a
+            .basis()
+            .equation(alloc, a.concl().type_of(), a.concl(), b.concl())?;
         let hyps = first.union(alloc, &second)?;
         Thm::closed(a.basis(), hyps, concl)
     }
@@ -204,13 +242,13 @@ fn applied(
     ensures is { IfOk result (λ t. t ≡ mk_eq range.now (comb x.entry.left.now y.entry.left.now) (comb x.entry.right.now y.entry.right.now)) }
     ensures typed { IfOk result (λ t. named_type t ≡ Some bool_type) }
 {
-    let left = Term::application(alloc, x.left, y.left)?;
-    let right = Term::application(alloc, x.right, y.right)?;
+    let left = Term::application_to(alloc, x.left, y.left, range)?;
+    let right = Term::application_to(alloc, x.right, y.right, range)?;
     basis.equation(alloc, range, &left, &right)
 }
 
 // The equation of the abstractions of the sides.
-fn abstracted(alloc: Global, v: &Variable, x: Sides<'_>) -> Result<Term, AllocError>
+fn abstracted(alloc: Global, basis: &Basis, v: &Variable, x: Sides<'_>) -> Result<Term, AllocError>
     requires left { named_type x.left.now ≡ Some x.ty.now }
     requires right { named_type x.right.now ≡ Some x.ty.now }
     ensures is { IfOk result (λ t. t ≡ mk_eq (fun_type v.now.1 x.entry.ty.now) (abs v.now x.entry.left.now) (abs v.now x.entry.right.now)) }
@@ -218,6 +256,5 @@ fn abstracted(alloc: Global, v: &Variable, x: Sides<'_>) -> Result<Term, AllocEr
 {
     let left = Term::abstraction(alloc, v, x.left)?;
     let right = Term::abstraction(alloc, v, x.right)?;
-    let ty = Ty::fun(alloc, v.ty(), x.ty)?;
-    mk_eq(alloc, &ty, &left, &right)
+    basis.equation(alloc, left.type_of(), &left, &right)
 }

@@ -8,7 +8,7 @@ use Rattle.hol_notation_terms.specs.Grammar.{term_grammar, a_quotation, a_type_q
 use Rattle.hol_notation_tactics.specs.Number.{number_value}
 use Rattle.hol_notation_tactics.specs.Grammar.{tactic_grammar, IsEnding}
 use Rattle.hol_notation_tactics.proofs.Certain.{certain as tactic_certain}
-use Rattle.hol_notation_commands.specs.Grammar.{Nonterminal, Production, parts, has, IsTextEnd, commands_over_tactics, command_grammar, no_text, open_goal, run_tactic, undo, rotate, finish, give_up, import_theory, declare, new_type, new_constant, new_axiom, new_definition, new_basic_type_definition, six_names}
+use Rattle.hol_notation_commands.specs.Grammar.{Nonterminal, Production, parts, has, IsTextEnd, commands_over_tactics, command_grammar, no_text, open_goal, run_tactic, define_tactic, undo, rotate, finish, give_up, import_theory, declare, new_type, new_constant, new_axiom, new_definition, new_basic_type_definition, six_names}
 use Rattle.hol_notation_commands.proofs.Picks.{pick, picks, shut}
 
 still : (after : List Lexeme) → IsTextEnd after → IsTextEnd after
@@ -38,6 +38,7 @@ inside_number false = (still, tt)
 pub inside : {n : Nonterminal} (p : Production n) → Inside command_grammar IsTextEnd (parts p)
 inside open_goal = λ _. λ _. (end_quotation, tt)
 inside run_tactic = λ _. (end_tactic, tt)
+inside define_tactic = λ _. λ _. (end_tactic, tt)
 inside undo = λ _. tt
 inside rotate = λ _. λ _. tt
 inside finish = λ _. tt

@@ -5,14 +5,15 @@ use Rattle.hol_notation_grammar.specs.Terminal.{IsNotNext, SameNext}
 use Rattle.hol_notation_grammar.specs.Syntax.{Tree, node, Trees, done, leaf, tree, then, all_then, Stands}
 use Rattle.hol_notation_grammar.specs.Over.{above}
 use Rattle.hol_notation_commands.specs.declared.word.CommandWord.{CommandWord}
-use Rattle.hol_notation_commands.specs.declared.word.CommandWord.TheVariants.{Goal, Apply, Back, Rotate, Qed, Oops, Import, NewType, NewConstant, NewAxiom, NewDefinition, NewBasicTypeDefinition}
+use Rattle.hol_notation_commands.specs.declared.word.CommandWord.TheVariants.{Goal, Apply, DefineTac, Back, Rotate, Qed, Oops, Import, NewType, NewConstant, NewAxiom, NewDefinition, NewBasicTypeDefinition}
 use Rattle.hol_notation_commands.specs.Words.{next_word}
-use Rattle.hol_notation_commands.specs.Grammar.{Nonterminal, Production, parts, Opens, IsTextEnd, command_grammar, a_command, a_declaration, some_names, no_text, open_goal, run_tactic, undo, rotate, finish, give_up, import_theory, declare, new_type, new_constant, new_axiom, new_definition, new_basic_type_definition, six_names}
+use Rattle.hol_notation_commands.specs.Grammar.{Nonterminal, Production, parts, Opens, IsTextEnd, command_grammar, a_command, a_declaration, some_names, no_text, open_goal, run_tactic, define_tactic, undo, rotate, finish, give_up, import_theory, declare, new_type, new_constant, new_axiom, new_definition, new_basic_type_definition, six_names}
 use Rattle.hol_notation_commands.proofs.Words.{word_found, word_same}
 
 abbrev pub choose_command : CommandWord → Option (Production a_command)
 choose_command Goal = Some open_goal
 choose_command Apply = Some run_tactic
+choose_command DefineTac = Some define_tactic
 choose_command Back = Some undo
 choose_command Rotate = Some rotate
 choose_command Qed = Some finish
@@ -52,6 +53,7 @@ declaration_command (node new_basic_type_definition (leaf x ts)) rest s = ap cho
 pub picks : {n : Nonterminal} (p : Production n) (ts : Trees command_grammar (parts p)) (rest : List Lexeme) → Stands {G = command_grammar} {n = above n} (node p ts) rest → pick n (all_then ts rest) ≡ Some p
 picks open_goal (leaf x ts) rest s = ap choose_command (word_found x (codes "g") s.1.0)
 picks run_tactic (leaf x ts) rest s = ap choose_command (word_found x (codes "e") s.1.0)
+picks define_tactic (leaf x ts) rest s = ap choose_command (word_found x (codes "deftac") s.1.0)
 picks undo (leaf x ts) rest s = ap choose_command (word_found x (codes "b") s.1.0)
 picks rotate (leaf x ts) rest s = ap choose_command (word_found x (codes "r") s.1.0)
 picks finish (leaf x ts) rest s = ap choose_command (word_found x (codes "qed") s.1.0)

@@ -10,8 +10,8 @@ use Rattle.hol_notation_grammar.proofs.Raising.{raised_stands}
 use Rattle.hol_notation_terms.specs.Grammar.{term_grammar, a_quotation, a_type_quotation, a_definition, defined, no_parameter, plain_side, equals_side}
 use Rattle.hol_notation_terms.proofs.Some.{mark, some_level}
 use Rattle.hol_notation_tactics.specs.Grammar.{tactic_grammar, tactics_over_terms, a_tactic}
-use Rattle.hol_notation_tactics.proofs.Some.{some_quotation, some_type_quotation}
-use Rattle.hol_notation_commands.specs.Grammar.{Nonterminal, AllNonterminals, AllParts, a_name, quotes, at_most_16, commands_over_tactics, command_grammar, a_declaration, new_axiom}
+use Rattle.hol_notation_tactics.proofs.Some.{some_quotation, some_type_quotation, some_tactic}
+use Rattle.hol_notation_commands.specs.Grammar.{Nonterminal, AllNonterminals, AllParts, a_name, tries, quotes, IsTextEnd, at_most_16, commands_over_tactics, command_grammar, a_declaration, new_axiom}
 use Rattle.hol_notation_commands.proofs.Certain.{end_quotation, end_type, end_definition, end_tactic}
 
 abbrev pub SomeTree : AllNonterminals → List Lexeme → Type 0
@@ -36,6 +36,12 @@ command_definition after =
     let s : Stands d after = (tt, (refl, ((refl, refl), ((tt, ((tt, ((tt, (refl, (l.1, (refl, tt)))), tt)), tt)), tt)))) in
     let r = raised term_grammar tactics_over_terms d in
     (raised tactic_grammar commands_over_tactics r, raised_stands tactic_grammar commands_over_tactics r after (raised_stands term_grammar tactics_over_terms d after s))
+
+-- some expression
+abbrev command_tactic : (after : List Lexeme) → IsTextEnd after → SomeTree (below (above a_tactic)) after
+command_tactic after k =
+    let t = some_tactic after (end_tactic after k) in
+    (raised tactic_grammar commands_over_tactics t.0, raised_stands tactic_grammar commands_over_tactics t.0 after t.1)
 
 abbrev fill_name : {ps : AllParts} {after : List Lexeme} → Filled command_grammar ps after → Filled command_grammar (a_name ps) after
 fill_name r = record { written = leaf (mark Ident) r.written; stands = ((refl, refl), r.stands) }
@@ -88,6 +94,9 @@ fills_type n after k = fill_name (fill_part (fill_nothing after) (command_type a
 
 pub fills_definition : (n : Nonterminal) → Fills command_grammar (above n) (a_name (quotes a_definition nothing))
 fills_definition n after k = fill_name (fill_part (fill_nothing after) (command_definition after))
+
+pub fills_tactic : (n : Nonterminal) → Fills command_grammar (above n) (a_name (tries a_tactic nothing))
+fills_tactic n after k = fill_name (fill_part (fill_nothing after) (command_tactic after k))
 
 pub fills_number : (n : Nonterminal) → Fills command_grammar (above n) (token number (λ _. nothing))
 fills_number n after k = record { written = leaf (mark Number) done; stands = (refl, tt) }

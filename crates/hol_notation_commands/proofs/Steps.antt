@@ -18,8 +18,8 @@ use Rattle.hol_notation_tactics.specs.Number.{number_value}
 use Rattle.hol_notation_tactics.specs.Grammar.{tactic_grammar, tactics_over_terms}
 pub use Rattle.hol_notation_tactics.proofs.Steps.{both}
 use Rattle.hol_notation_commands.specs.declared.word.CommandWord.{CommandWord}
-use Rattle.hol_notation_commands.specs.declared.word.CommandWord.TheVariants.{Goal, Apply, Back, Rotate, Qed, Oops, Import, NewType, NewConstant, NewAxiom, NewDefinition, NewBasicTypeDefinition}
-use Rattle.hol_notation_commands.specs.Grammar.{Nonterminal, Production, has, no_text, at_most_16, commands_over_tactics, command_grammar, a_declaration, open_goal, run_tactic, undo, rotate, finish, give_up, import_theory, declare, new_type, new_constant, new_axiom, new_definition, new_basic_type_definition, six_names}
+use Rattle.hol_notation_commands.specs.declared.word.CommandWord.TheVariants.{Goal, Apply, DefineTac, Back, Rotate, Qed, Oops, Import, NewType, NewConstant, NewAxiom, NewDefinition, NewBasicTypeDefinition}
+use Rattle.hol_notation_commands.specs.Grammar.{Nonterminal, Production, has, no_text, at_most_16, commands_over_tactics, command_grammar, a_declaration, open_goal, run_tactic, define_tactic, undo, rotate, finish, give_up, import_theory, declare, new_type, new_constant, new_axiom, new_definition, new_basic_type_definition, six_names}
 use Rattle.hol_notation_commands.specs.Text.{TypeDefinitionText, MakingText}
 use Rattle.hol_notation_commands.specs.Value.{declaration_value}
 use Rattle.hol_notation_commands.proofs.Picks.{pick, looks, choose_command, choose_declaration}
@@ -46,15 +46,16 @@ no_declaration end words place here none =
     (stuck_here certain (above a_declaration) end words (looks a_declaration) none
     (λ after k. let t = some_declaration after in record { written = t.0; more = _; whole = refl; stands = t.1 }))
 
-pub rest_command : (w : CommandWord) → (w ≡ Goal → ⊥) → (w ≡ Apply → ⊥) → (w ≡ Back → ⊥) → (w ≡ Rotate → ⊥) → (w ≡ Qed → ⊥) → (w ≡ Oops → ⊥) → (w ≡ Import → ⊥) → choose_command w ≡ Some declare
-rest_command Goal a b c d e f g = absurd (a refl)
-rest_command Apply a b c d e f g = absurd (b refl)
-rest_command Back a b c d e f g = absurd (c refl)
-rest_command Rotate a b c d e f g = absurd (d refl)
-rest_command Qed a b c d e f g = absurd (e refl)
-rest_command Oops a b c d e f g = absurd (f refl)
-rest_command Import a b c d e f g = absurd (g refl)
-rest_command _ a b c d e f g = refl
+pub rest_command : (w : CommandWord) → (w ≡ Goal → ⊥) → (w ≡ Apply → ⊥) → (w ≡ DefineTac → ⊥) → (w ≡ Back → ⊥) → (w ≡ Rotate → ⊥) → (w ≡ Qed → ⊥) → (w ≡ Oops → ⊥) → (w ≡ Import → ⊥) → choose_command w ≡ Some declare
+rest_command Goal a b c d e f g h = absurd (a refl)
+rest_command Apply a b c d e f g h = absurd (b refl)
+rest_command DefineTac a b c d e f g h = absurd (c refl)
+rest_command Back a b c d e f g h = absurd (d refl)
+rest_command Rotate a b c d e f g h = absurd (e refl)
+rest_command Qed a b c d e f g h = absurd (f refl)
+rest_command Oops a b c d e f g h = absurd (g refl)
+rest_command Import a b c d e f g h = absurd (h refl)
+rest_command _ a b c d e f g h = refl
 
 pub none_declaration : (w : CommandWord) → (w ≡ NewType → ⊥) → (w ≡ NewConstant → ⊥) → (w ≡ NewAxiom → ⊥) → (w ≡ NewDefinition → ⊥) → (w ≡ NewBasicTypeDefinition → ⊥) → choose_declaration w ≡ None
 none_declaration NewType a b c d e = absurd (a refl)
@@ -72,6 +73,7 @@ IsWritten _ = Unit {0}
 is_written : {n : Nonterminal} → Production n → IsWritten n
 is_written open_goal = tt
 is_written run_tactic = tt
+is_written define_tactic = tt
 is_written undo = tt
 is_written rotate = tt
 is_written finish = tt

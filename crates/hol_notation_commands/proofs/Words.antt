@@ -8,13 +8,14 @@ use Rattle.hol_notation_tokens.specs.Lexeme.{Lexeme}
 use Rattle.hol_notation_grammar.specs.Terminal.{Is, the_word, SameNext}
 use Rattle.hol_notation_grammar.specs.Class.{Taken}
 use Rattle.hol_notation_commands.specs.declared.word.CommandWord.{CommandWord}
-use Rattle.hol_notation_commands.specs.declared.word.CommandWord.TheVariants.{Goal, Apply, Back, Rotate, Qed, Oops, Import, NewType, NewConstant, NewAxiom, NewDefinition, NewBasicTypeDefinition, Other}
+use Rattle.hol_notation_commands.specs.declared.word.CommandWord.TheVariants.{Goal, Apply, DefineTac, Back, Rotate, Qed, Oops, Import, NewType, NewConstant, NewAxiom, NewDefinition, NewBasicTypeDefinition, Other}
 use Rattle.hol_notation_commands.specs.Words.{command_words, first_word, text_word, kind_word, word_of, next_word, after_next}
 
 -- the text of a command word; the others have none
 abbrev pub text_of : CommandWord → List ℕ
 text_of Goal = codes "g"
 text_of Apply = codes "e"
+text_of DefineTac = codes "deftac"
 text_of Back = codes "b"
 text_of Rotate = codes "r"
 text_of Qed = codes "qed"
@@ -56,7 +57,7 @@ table_says (w ∷ ws) a x e = go (table_says ws a.1 x e) (bytes_eq x.text w.0) r
     go later false f = subst (λ (l : CommandWord). WordIs l x) (sym (ap (λ (t : Bool). cond t w.1 (first_word ws x.text)) f)) later
 
 all_right : AllRight command_words
-all_right = (λ x e f. (e, f), (λ x e f. (e, f), (λ x e f. (e, f), (λ x e f. (e, f), (λ x e f. (e, f), (λ x e f. (e, f), (λ x e f. (e, f), (λ x e f. (e, f), (λ x e f. (e, f), (λ x e f. (e, f), (λ x e f. (e, f), (λ x e f. (e, f), tt))))))))))))
+all_right = (λ x e f. (e, f), (λ x e f. (e, f), (λ x e f. (e, f), (λ x e f. (e, f), (λ x e f. (e, f), (λ x e f. (e, f), (λ x e f. (e, f), (λ x e f. (e, f), (λ x e f. (e, f), (λ x e f. (e, f), (λ x e f. (e, f), (λ x e f. (e, f), (λ x e f. (e, f), tt)))))))))))))
 
 word_says : (x : Lexeme) → WordIs (word_of x) x
 word_says x = go x.kind refl

@@ -6,7 +6,7 @@ use Rattle.hol_notation_terms.specs.Code.{coded_name, coded_quotation, coded_typ
 use Rattle.hol_notation_tactics.specs.Text.{TacText}
 use Rattle.hol_notation_tactics.specs.Code.{coded_tac}
 use base.Stored.{coded_unit}
-use Rattle.hol_notation_commands.specs.Text.{TypeDefinitionText, MakingText, NewType, NewConstant, NewAxiom, NewDefinition, NewBasicTypeDefinition, LocalText, Goal, Apply, Qed, Make, DirectText, Back, Rotate, Oops, Import, CommandText, Local, Direct}
+use Rattle.hol_notation_commands.specs.Text.{TypeDefinitionText, MakingText, NewType, NewConstant, NewAxiom, NewDefinition, NewBasicTypeDefinition, LocalText, Goal, Apply, Qed, DefineTac, Make, DirectText, Back, Rotate, Oops, Import, CommandText, Local, Direct}
 
 abbrev coded_names : Coded (List ℕ × (List ℕ × List ℕ))
 coded_names = coded× coded_name (coded× coded_name coded_name)
@@ -51,28 +51,31 @@ coded_making =
     making_cases making making_back
 
 abbrev LocalCases : Type 0
-LocalCases = (List ℕ × QuotationText) ⊎ (TacText ⊎ (Unit {0} ⊎ MakingText))
+LocalCases = (List ℕ × QuotationText) ⊎ (TacText ⊎ (Unit {0} ⊎ ((List ℕ × TacText) ⊎ MakingText)))
 
 abbrev local_cases : LocalText → LocalCases
 local_cases (Goal name quotation) = inl (name, quotation)
 local_cases (Apply tactic) = inr (inl tactic)
 local_cases Qed = inr (inr (inl tt))
-local_cases (Make m) = inr (inr (inr m))
+local_cases (DefineTac name tactic) = inr (inr (inr (inl (name, tactic))))
+local_cases (Make m) = inr (inr (inr (inr m)))
 
 abbrev local : LocalCases → LocalText
 local (inl p) = Goal p.0 p.1
 local (inr (inl tactic)) = Apply tactic
 local (inr (inr (inl u))) = Qed
-local (inr (inr (inr m))) = Make m
+local (inr (inr (inr (inl p)))) = DefineTac p.0 p.1
+local (inr (inr (inr (inr m)))) = Make m
 
 pub local_back : (c : LocalText) → local (local_cases c) ≡ c
 local_back (Goal name quotation) = refl
 local_back (Apply tactic) = refl
 local_back Qed = refl
+local_back (DefineTac name tactic) = refl
 local_back (Make m) = refl
 
 abbrev pub coded_local : Coded LocalText
-coded_local = code_by LocalCases (coded⊎ (coded× coded_name coded_quotation) (coded⊎ coded_tac (coded⊎ coded_unit coded_making))) local_cases local local_back
+coded_local = code_by LocalCases (coded⊎ (coded× coded_name coded_quotation) (coded⊎ coded_tac (coded⊎ coded_unit (coded⊎ (coded× coded_name coded_tac) coded_making)))) local_cases local local_back
 
 abbrev DirectCases : Type 0
 DirectCases = Unit {0} ⊎ (ℕ ⊎ (Unit {0} ⊎ List ℕ))

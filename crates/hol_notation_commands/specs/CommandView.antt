@@ -8,7 +8,7 @@ use Rattle.hol_notation_commands.specs.declared.command.DirectCommand.{DirectCom
 use Rattle.hol_notation_commands.specs.declared.command.DirectCommand.TheVariants as direct
 use Rattle.hol_notation_commands.specs.declared.command.CommandNode.{CommandNode}
 use Rattle.hol_notation_commands.specs.declared.command.CommandNode.TheVariants as code
-use Rattle.hol_notation_commands.specs.Text.{MakingText, NewType, NewConstant, NewAxiom, NewDefinition, NewBasicTypeDefinition, LocalText, Goal, Apply, Qed, Make, DirectText, Back, Rotate, Oops, Import, CommandText, Local, Direct}
+use Rattle.hol_notation_commands.specs.Text.{MakingText, NewType, NewConstant, NewAxiom, NewDefinition, NewBasicTypeDefinition, LocalText, Goal, Apply, Qed, DefineTac, Make, DirectText, Back, Rotate, Oops, Import, CommandText, Local, Direct}
 
 abbrev pub making_text : Making → MakingText
 making_text (making.Type name arity) = NewType (string_bytes name) arity
@@ -21,6 +21,7 @@ abbrev pub local_text : LocalCommand → LocalText
 local_text (local.Goal name quotation) = Goal (string_bytes name) quotation
 local_text (local.Apply tactic) = Apply tactic
 local_text local.Qed = Qed
+local_text (local.DefineTac name tactic) = DefineTac (string_bytes name) tactic
 local_text (local.Make made) = Make (making_text made)
 
 abbrev pub direct_text : DirectCommand → DirectText

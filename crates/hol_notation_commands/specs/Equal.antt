@@ -10,7 +10,7 @@ use Rattle.hol_notation_tactics.specs.Leading as tactics
 use Rattle.std.specs.Hash as fed
 use Rattle.std.specs.Prelude.{IsTrue}
 use Rattle.std.specs.Cmp.{IsPartialEquivalence, partial_equiv_from_equiv}
-use Rattle.hol_notation_commands.specs.Text.{MakingText, NewType, NewConstant, NewAxiom, NewDefinition, NewBasicTypeDefinition, LocalText, Goal, Apply, Qed, Make}
+use Rattle.hol_notation_commands.specs.Text.{MakingText, NewType, NewConstant, NewAxiom, NewDefinition, NewBasicTypeDefinition, LocalText, Goal, Apply, Qed, DefineTac, Make}
 use Rattle.hol_notation_commands.specs.declared.command.LocalCommand.{LocalCommand}
 use Rattle.hol_notation_commands.specs.CommandView.{local_text}
 use Rattle.hol_notation_commands.specs.Code.{coded_local}
@@ -43,6 +43,7 @@ abbrev pub leading_name : LocalText → List ℕ
 leading_name (Goal name quotation) = name
 leading_name (Apply tactic) = tactics.leading_name tactic
 leading_name Qed = []
+leading_name (DefineTac name tactic) = name
 leading_name (Make making) = making_name making
 
 code_eq_decides : (a b : Gv) → Decides (code_eq a b) (a ≡ b)

@@ -1,7 +1,7 @@
 -- The grammar of commands, over that of tactic expressions and so over that of terms and types. Command words are
 -- identifiers, and no reserved words.
 --
---   command := g NAME quotation | e tactic | b | r NUM | qed | oops | import NAME | declaration
+--   command := g NAME quotation | e tactic | deftac NAME tactic | b | r NUM | qed | oops | import NAME | declaration
 --   declaration := new_type NAME NUM | new_constant NAME type quotation | new_axiom NAME quotation
 --     | new_definition NAME definition | new_basic_type_definition names
 --   names := NAME NAME NAME NAME NAME NAME
@@ -22,7 +22,7 @@ pub data Nonterminal : Type 0 where
   no_text : Nonterminal
 
 pub data Production : Nonterminal → Type 0 where
-  open_goal run_tactic undo rotate finish give_up import_theory declare : Production a_command
+  open_goal run_tactic define_tactic undo rotate finish give_up import_theory declare : Production a_command
   new_type new_constant new_axiom new_definition new_basic_type_definition : Production a_declaration
   six_names : Production some_names
 
@@ -55,6 +55,7 @@ at_most_16 x = if nat_le (number_value x.text) 16 then nothing else has no_text 
 abbrev pub parts : {n : Nonterminal} → Production n → AllParts
 parts open_goal = the (codes "g") (a_name (quotes a_quotation nothing))
 parts run_tactic = the (codes "e") (tries a_tactic nothing)
+parts define_tactic = the (codes "deftac") (a_name (tries a_tactic nothing))
 parts undo = the (codes "b") nothing
 parts rotate = the (codes "r") (token number (λ _. nothing))
 parts finish = the (codes "qed") nothing

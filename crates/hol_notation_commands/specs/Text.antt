@@ -1,6 +1,7 @@
 -- Commands as they are written.
 -- Source: this project; `g`, `e`, `b`, `r`, `new_type`, `new_constant`, `new_axiom`, `new_definition` and
--- `new_basic_type_definition` are the names of HOL Light's functions (HOL Light Reference Manual).
+-- `new_basic_type_definition` are the names of HOL Light's functions (HOL Light Reference Manual); `deftac` names an
+-- expression, as a `let` of OCaml does in HOL Light.
 use Rattle.std.specs.Prelude.{ℕ, List}
 use Rattle.hol_notation_terms.specs.Text.{QuotationText, TypeQuotationText, DefinitionText}
 use Rattle.hol_notation_tactics.specs.Text.{TacText}
@@ -28,6 +29,7 @@ pub data LocalText : Type 0 where
   Goal : List ℕ → QuotationText → LocalText
   Apply : TacText → LocalText
   Qed : LocalText
+  DefineTac : List ℕ → TacText → LocalText
   Make : MakingText → LocalText
 
 -- the commands that are answered from the state: those on the open proof's history, and imports

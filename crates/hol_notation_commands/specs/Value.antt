@@ -8,8 +8,8 @@ use Rattle.hol_notation_tactics.specs.Number.{number_value}
 use Rattle.hol_notation_tactics.specs.Text.{TacText}
 use Rattle.hol_notation_tactics.specs.Grammar.{tactics_over_terms, tactic_grammar, a_tactic}
 use Rattle.hol_notation_tactics.specs.Value.{tactic_value}
-use Rattle.hol_notation_commands.specs.Text.{TypeDefinitionText, MakingText, CommandText, Local, Direct, Make, Goal, Apply, Back, Rotate, Qed, Oops, Import, NewType, NewConstant, NewAxiom, NewDefinition, NewBasicTypeDefinition}
-use Rattle.hol_notation_commands.specs.Grammar.{commands_over_tactics, command_grammar, a_command, a_declaration, some_names, open_goal, run_tactic, undo, rotate, finish, give_up, import_theory, declare, new_type, new_constant, new_axiom, new_definition, new_basic_type_definition, six_names}
+use Rattle.hol_notation_commands.specs.Text.{TypeDefinitionText, MakingText, CommandText, Local, Direct, Make, Goal, Apply, DefineTac, Back, Rotate, Qed, Oops, Import, NewType, NewConstant, NewAxiom, NewDefinition, NewBasicTypeDefinition}
+use Rattle.hol_notation_commands.specs.Grammar.{commands_over_tactics, command_grammar, a_command, a_declaration, some_names, open_goal, run_tactic, define_tactic, undo, rotate, finish, give_up, import_theory, declare, new_type, new_constant, new_axiom, new_definition, new_basic_type_definition, six_names}
 
 -- a part says what it says by its own grammar
 abbrev pub tactic_said : Tree command_grammar (below (above a_tactic)) → TacText
@@ -38,6 +38,7 @@ declaration_value (node new_basic_type_definition (leaf w (tree d done))) = NewB
 abbrev pub command_value : Tree command_grammar (above a_command) → CommandText
 command_value (node open_goal (leaf w (leaf x (tree q done)))) = Local (Goal x.text (term_said q))
 command_value (node run_tactic (leaf w (tree t done))) = Local (Apply (tactic_said t))
+command_value (node define_tactic (leaf w (leaf x (tree t done)))) = Local (DefineTac x.text (tactic_said t))
 command_value (node undo (leaf w done)) = Direct Back
 command_value (node rotate (leaf w (leaf n done))) = Direct (Rotate (number_value n.text))
 command_value (node finish (leaf w done)) = Local Qed

@@ -6,11 +6,11 @@ use Rattle.hol_notation_tokens.specs.Lexeme.{Lexeme}
 use Rattle.hol_notation_grammar.specs.Terminal.{Is, name}
 use Rattle.hol_notation_grammar.specs.Class.{Taken}
 use Rattle.hol_notation_commands.specs.declared.word.CommandWord.{CommandWord}
-use Rattle.hol_notation_commands.specs.declared.word.CommandWord.TheVariants.{Goal, Apply, Back, Rotate, Qed, Oops, Import, NewType, NewConstant, NewAxiom, NewDefinition, NewBasicTypeDefinition, Other}
+use Rattle.hol_notation_commands.specs.declared.word.CommandWord.TheVariants.{Goal, Apply, DefineTac, Back, Rotate, Qed, Oops, Import, NewType, NewConstant, NewAxiom, NewDefinition, NewBasicTypeDefinition, Other}
 
 abbrev pub command_words : List (List ℕ × CommandWord)
 command_words =
-    (codes "g", Goal) ∷ (codes "e", Apply) ∷ (codes "b", Back) ∷ (codes "r", Rotate) ∷ (codes "qed", Qed) ∷ (codes "oops", Oops)
+    (codes "g", Goal) ∷ (codes "e", Apply) ∷ (codes "deftac", DefineTac) ∷ (codes "b", Back) ∷ (codes "r", Rotate) ∷ (codes "qed", Qed) ∷ (codes "oops", Oops)
     ∷ (codes "import", Import) ∷ (codes "new_type", NewType) ∷ (codes "new_constant", NewConstant) ∷ (codes "new_axiom", NewAxiom)
     ∷ (codes "new_definition", NewDefinition) ∷ (codes "new_basic_type_definition", NewBasicTypeDefinition) ∷ []
 

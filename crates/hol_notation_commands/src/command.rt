@@ -51,6 +51,13 @@ pub enum LocalCommand {
     Apply(TacExpr),
     /// `qed`: ends the proof.
     Qed,
+    /// `deftac NAME` with an expression of TACs: names it.
+    DefineTac {
+        /// The name that it gets.
+        name: String,
+        /// The expression.
+        tactic: TacExpr,
+    },
     /// A command that makes a type, a constant, an axiom or a definition.
     Make(Making),
 }
@@ -135,6 +142,16 @@ impl LocalCommand {
                 tactic.same(other_tactic)
             }
             LocalCommand::Qed => matches!(other, LocalCommand::Qed),
+            LocalCommand::DefineTac { name, tactic } => {
+                let LocalCommand::DefineTac {
+                    name: other_name,
+                    tactic: other_tactic,
+                } = other
+                else {
+                    return false;
+                };
+                name.as_str() == other_name.as_str() && tactic.same(other_tactic)
+            }
             LocalCommand::Make(making) => {
                 let LocalCommand::Make(other_making) = other else {
                     return false;
@@ -152,6 +169,7 @@ impl LocalCommand {
             LocalCommand::Goal { name, quotation: _ } => name.as_str(),
             LocalCommand::Apply(tactic) => tactic.leading_name(),
             LocalCommand::Qed => "",
+            LocalCommand::DefineTac { name, tactic: _ } => name.as_str(),
             LocalCommand::Make(making) => making.name(),
         }
     }

@@ -40,6 +40,12 @@ pub(crate) fn read_words<'a, 't>(
             let (tactic, rest) = read_tactic(alloc, next.rest, end)?;
             Ok((CommandNode::Local(LocalCommand::Apply(tactic)), rest))
         }
+        CommandWord::DefineTac => {
+            let (name, after) = read_name(alloc, next.rest, end)?;
+            let (tactic, rest) = read_tactic(alloc, after, end)?;
+            let command = LocalCommand::DefineTac { name, tactic };
+            Ok((CommandNode::Local(command), rest))
+        }
         CommandWord::Back => Ok((CommandNode::Direct(DirectCommand::Back), next.rest)),
         CommandWord::Rotate => {
             let (number, rest) = expect(next.rest, Class::Number, end)?;

@@ -14,6 +14,7 @@ use std::alloc::Global;
 pub(crate) enum CommandWord {
     Goal,
     Apply,
+    DefineTac,
     Back,
     Rotate,
     Qed,
@@ -46,6 +47,7 @@ fn text_word(text: &str) -> CommandWord
     match text {
         "g" => CommandWord::Goal,
         "e" => CommandWord::Apply,
+        "deftac" => CommandWord::DefineTac,
         "b" => CommandWord::Back,
         "r" => CommandWord::Rotate,
         "qed" => CommandWord::Qed,

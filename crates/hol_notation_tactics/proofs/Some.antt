@@ -10,7 +10,7 @@ use Rattle.hol_notation_grammar.proofs.Steps.{Filled, Fills, IsEnded, Ready, Com
 use Rattle.hol_notation_grammar.proofs.Raising.{raised_stands}
 use Rattle.hol_notation_terms.specs.Grammar.{Nonterminal as TermNonterminal, term_grammar, a_quotation, a_type_quotation, quoted, type_quoted}
 use Rattle.hol_notation_terms.proofs.Some.{mark, some_type, some_level}
-use Rattle.hol_notation_tactics.specs.Grammar.{Nonterminal, the_sign, a_name, has, quotes, IsEnding, tactics_over_terms, tactic_grammar, an_alternative, some_steps, a_tactical, a_tactic_atom, a_tactic_list, more_tactics, a_theorem_tactic, some_arguments, an_argument, more_theorems, a_simple_theorem, some_pairs, a_pair, more_pairs, no_alternative, no_step, discharge, named_tactic, empty_tactics, last_tactic, named_theorem_tactic, no_argument, named_argument, last_theorem, named_theorem, bracketed_theorem, listed_pairs, two_types, next_pair, last_pair}
+use Rattle.hol_notation_tactics.specs.Grammar.{Nonterminal, the_sign, a_name, has, quotes, IsEnding, tactics_over_terms, tactic_grammar, a_tactic, an_alternative, some_steps, a_tactical, a_tactic_atom, a_tactic_list, more_tactics, a_theorem_tactic, some_arguments, an_argument, more_theorems, a_simple_theorem, some_pairs, a_pair, more_pairs, sequence_first, no_alternative, application_first, no_step, modified, combined, discharge, named_tactic, empty_tactics, last_tactic, named_theorem_tactic, no_argument, named_argument, last_theorem, named_theorem, bracketed_theorem, listed_pairs, two_types, next_pair, last_pair}
 use Rattle.hol_notation_tactics.proofs.Picks.{shut}
 use Rattle.hol_notation_tactics.proofs.Certain.{ending_closing}
 
@@ -80,6 +80,15 @@ some_alternative after k = (node no_alternative done, (shut an_alternative after
 
 abbrev pub some_step : (after : List Lexeme) → IsEnding after → SomeTree (above some_steps) after
 some_step after k = (node no_step done, (shut some_steps after k, tt))
+
+abbrev pub some_tactic : (after : List Lexeme) → IsEnding after → SomeTree (above a_tactic) after
+some_tactic after k =
+    let t = some_tactical after in
+    let step = some_step after k in
+    let more = some_alternative after k in (
+      node sequence_first (tree (node application_first (tree (node modified (tree (node combined (tree t.0 done)) done)) (tree step.0 done))) (tree more.0 done)),
+      (tt, ((tt, ((tt, ((tt, (t.1, tt)), tt)), (step.1, tt))), (more.1, tt))),
+    )
 
 abbrev pub some_written_arguments : (after : List Lexeme) → IsEnding after → SomeTree (above some_arguments) after
 some_written_arguments after k = (node no_argument done, (shut some_arguments after k, tt))

@@ -46,6 +46,13 @@ impl Registry {
         named::find(&self.entries, name)
     }
 
+    /// How many entries it has.
+    pub fn count(&self) -> usize
+        ensures { result ≡ length (table self.now) }
+    {
+        self.entries.len()
+    }
+
     /// The code of the entry at an index.
     pub fn code(&self, index: usize) -> TacCode
         requires { index < length (table self.now) }

@@ -3,6 +3,7 @@
 //! A call that answers a `Result` answers the error of memory where memory is short, and nowhere else.
 #![tactic(auto)]
 
+mod consumed;
 mod conversion;
 mod parts;
 mod redex_theorem;

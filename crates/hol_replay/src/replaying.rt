@@ -9,11 +9,12 @@ ghost use Rattle.hol_match.specs.Givens.{all_hold, all_hyps};
 ghost use Rattle.hol_replay.specs.Replays.{trace_equation};
 ghost use Rattle.hol_replay.specs.NodeTheorems.{IsNode};
 
+use crate::consumed::{in_abstraction, in_application, one_after_other};
 use crate::parts::{abstraction, application};
 use crate::redex_theorem::redex_theorem;
 use hol_conv::{Trace, TraceNode, body_at};
 use hol_derived::Lemmas;
-use hol_equal::applied::{abs, beta_conv, mk_comb, refl, sides_of, trans};
+use hol_equal::applied::{beta_conv, refl, sides_of};
 use hol_formulas::occurrence;
 use hol_kernel::{Basis, Thm};
 use hol_terms::{Term, Variable};
@@ -94,7 +95,7 @@ fn parts_theorem(
     let (f, x) = application(t);
     let left = node_theorem(alloc, lemmas, basis, function, f.type_of(), f)?;
     let right = node_theorem(alloc, lemmas, basis, argument, x.type_of(), x)?;
-    mk_comb(alloc, &left, &right)
+    in_application(alloc, left, right)
 }
 
 // The same where the body was rewritten, with the variable free in it (ABS).
@@ -122,7 +123,7 @@ fn body_theorem(
     let own = occurrence(alloc, v)?;
     let inside = body_at(alloc, w, b, &own)?;
     let th = node_theorem(alloc, lemmas, basis, body, inside.type_of(), &inside)?;
-    abs(alloc, v, &th)
+    in_abstraction(alloc, v, th)
 }
 
 // The same where one trace comes after another (TRANS).
@@ -152,5 +153,5 @@ fn both_theorem(
         unreachable!()
     };
     let right = node_theorem(alloc, lemmas, basis, second, ty, sides.right)?;
-    trans(alloc, &left, &right)
+    one_after_other(alloc, left, right)
 }

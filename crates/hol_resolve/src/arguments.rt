@@ -9,16 +9,18 @@ ghost use Rattle.hol_resolve.specs.Over.{AreOver, AreWithin};
 ghost use Rattle.hol_resolve.specs.ReadingView.{readings_value};
 ghost use Rattle.hol_resolve.specs.Forms.{arguments_given};
 ghost use Rattle.hol_resolve.specs.FormsView.{written_value};
+ghost use Rattle.hol_resolve.specs.Forward.{theorem_written};
+ghost use Rattle.hol_resolve.specs.Steps.{placed};
 ghost use Rattle.hol_resolve.specs.Written.{result_map, result_both, term_given, theorem_given, theorems_given};
 
 use crate::readings::Readings;
 use crate::refusal::Refusal;
-use crate::theorems::theorem_written;
+use crate::theorems::{cited_theorem, theorem_written};
 use crate::written::WrittenArgs;
 use hol_bool::Lemmas;
 use hol_goal::TacArgs;
 use hol_kernel::{Basis, Given, Thm};
-use hol_notation_tactics::ThmExpr;
+use hol_notation_tactics::{ThmExpr, ThmExprNode};
 use hol_notation_terms::Quotation;
 use hol_terms::Term;
 use hol_types::Name;
@@ -149,11 +151,32 @@ fn theorem_given(
     requires within { AreWithin basis.now cited.now }
     ensures { IfOk result (λ r. r ≡ theorem_given basis.now cited.now (readings_value readings.now) theorem.now) }
 {
-    let mut lemmas = general.widen(alloc, basis)?;
-    match theorem_written(alloc, &mut lemmas, theorem, cited, readings, basis)? {
+    match theorem_by(alloc, general, theorem, cited, readings, basis)? {
         Ok(th) => Ok(Ok(Given::theorem(&th)?)),
         Err(refusal) => Ok(Err(refusal)),
     }
+}
+
+// The theorem that is written. The general theorems are taken to the basis only where a rule is applied.
+#[tactic(auto, using(crate::proofs::Applied::placed_is))]
+fn theorem_by(
+    alloc: Global,
+    general: &Lemmas,
+    theorem: &ThmExpr,
+    cited: &[(Name, Thm)],
+    readings: &Readings,
+    basis: &Basis,
+) -> Result<Result<Thm, Refusal>, AllocError>
+    requires general { general.now ≡ no_items }
+    requires over { AreOver basis.now (readings_value readings.now) }
+    requires within { AreWithin basis.now cited.now }
+    ensures { IfOk result (λ r. r ≡ placed basis.now (theorem_written cited.now (readings_value readings.now) theorem.now)) }
+{
+    if let ThmExprNode::Name(name) = theorem.node() {
+        return cited_theorem(alloc, name.as_str(), cited, basis);
+    }
+    let mut lemmas = general.widen(alloc, basis)?;
+    theorem_written(alloc, &mut lemmas, theorem, cited, readings, basis)
 }
 
 // The theorems that are written, each after those before it.

@@ -84,9 +84,9 @@ fn find<'a>(cited: &'a [(Name, Thm)], name: &str) -> Option<&'a Thm>
     None
 }
 
-// The theorem that stands under the name, over the basis.
+/// The theorem that stands under the name, over the basis.
 #[tactic(auto, using(crate::proofs::Over::cited_within))]
-fn cited_theorem(
+pub(crate) fn cited_theorem(
     alloc: Global,
     name: &str,
     cited: &[(Name, Thm)],

@@ -41,7 +41,7 @@ Pair = Variable × Variable
 
 -- ---- one
 
-own_name_type : (terms : List Nameless) (v : Variable) → (own_name terms v).1 ≡ v.1
+pub own_name_type : (terms : List Nameless) (v : Variable) → (own_name terms v).1 ≡ v.1
 own_name_type terms v = by (is_free_in terms v)
   where
     by : (b : Bool) → (cond b (free_name terms v.0, v.1) v).1 ≡ v.1

@@ -13,9 +13,8 @@ ghost use Rattle.hol_just.specs.Justifies.{LeavesChosen};
 ghost use Rattle.hol_steps.specs.Fresh.{IsFresh, abstraction_of};
 
 use crate::fresh::{FreeingStep, FreshVariable, fresh_variable};
-use crate::quantifiers::{all_terms, at, is_free_in_goal};
+use crate::quantifiers::{all_terms, at_variable, is_free_in_goal};
 use crate::steps::{assume, leaving_one};
-use hol_formulas::occurrence;
 use hol_goal::{Goal, Names};
 use hol_just::{Just, Step};
 use hol_kernel::Given;
@@ -82,11 +81,25 @@ pub fn x_choose_step(
     ensures goals { IfOk result (λ step. step.goals.items ≡ assuming goal.now (open_with (free v.now) 0 (nameless (x.now ∷ []) p.now)) goal.now.conclusion ∷ []) }
     ensures just { IfOk result (λ step. LeavesChosen v.now th.now step.just) }
 {
-    let variable = occurrence(alloc, v)?;
-    let chosen = at(alloc, x, p, &variable)?;
-    let left = assume(alloc, goal, &chosen, goal.conclusion())?;
+    let left = chosen_goal(alloc, goal, x, p, v)?;
     let just = Just::choose_tac(alloc, v, th)?;
     leaving_one(alloc, left, just)
+}
+
+// The goal with the property at the variable assumed.
+fn chosen_goal(
+    alloc: Global,
+    goal: &Goal,
+    x: &Variable,
+    p: &Term,
+    v: &Variable,
+) -> Result<Goal, AllocError>
+    requires same { v.now.1 ≡ x.now.1 }
+    requires body { named_type p.now ≡ Some bool_type }
+    ensures { IfOk result (λ g. g ≡ assuming goal.now (open_with (free v.now) 0 (nameless (x.now ∷ []) p.now)) goal.now.conclusion) }
+{
+    let chosen = at_variable(alloc, x, p, v)?;
+    assume(alloc, goal, &chosen, goal.conclusion())
 }
 
 /// Whether the variable is free in the goal or the theorem.

@@ -1,7 +1,7 @@
 //! Variables of new names.
-ghost use Rattle.std.specs.Prelude.{◌≡◌, List, map, IfOk, false, []};
+ghost use Rattle.std.specs.Prelude.{◌≡◌, ◌∷◌, ◌++◌, List, map, IfOk, OnOk, codes, false, []};
 ghost use Rattle.hol_terms.specs.Nameless.{Nameless, nameless};
-ghost use Rattle.hol_subst.specs.FreeName.{is_taken};
+ghost use Rattle.hol_subst.specs.FreeName.{is_taken, IsFreeName};
 ghost use Rattle.hol_just.specs.Fresh.{fresh};
 ghost use Rattle.hol_steps.specs.Fresh.{AreAlike, IsFresh};
 
@@ -65,10 +65,26 @@ fn fresh_name(
 {
     let mut name = free_name(alloc, avoid, base)?;
     let mut tested = Vec::new(alloc);
-    tested.push(name.copy()?)?;
+    add_copy(&mut tested, &name)?;
     'primes: while names.has(name.as_str()) {
-        name = free_name(alloc, avoid, &name.primed(alloc)?)?;
-        tested.push(name.copy()?)?;
+        name = next_name(alloc, avoid, &name)?;
+        add_copy(&mut tested, &name)?;
     }
     Ok(FreshName { name, tested })
+}
+
+// The first name with more primes than this that is that of nothing in the terms.
+fn next_name(alloc: Global, avoid: &[Term], name: &Name) -> Result<Name, AllocError>
+    ensures { IfOk result (λ next. IsFreeName (map (nameless []) avoid.now) (name.now ++ codes "'") next) }
+{
+    let primed = name.primed(alloc)?;
+    free_name(alloc, avoid, &primed)
+}
+
+// Puts the name at the end.
+fn add_copy(to: &mut Vec<Name>, name: &Name) -> Result<(), AllocError>
+    ensures { OnOk result (to.new.items ≡ to.old.items ++ name.now ∷ []) }
+{
+    to.push(name.copy()?)?;
+    Ok(())
 }

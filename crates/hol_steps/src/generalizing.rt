@@ -73,7 +73,10 @@ pub(crate) fn generalized(alloc: Global, th: &Given, own: &[Variable]) -> Result
     match th.node() {
         GivenNode::Theorem(theorem) => {
             theorem.well_typed();
-            Given::theorem(&generalized_theorem(alloc, theorem, own)?)
+            let whole = generalized_theorem(alloc, theorem, own)?;
+            let given = Given::theorem(&whole);
+            drop(whole);
+            given
         }
         GivenNode::Assumed(_) => th.copy(),
     }
@@ -87,7 +90,9 @@ fn generalized_theorem(alloc: Global, th: &Thm, variables: &[Variable]) -> Resul
     let mut whole = th.copy()?;
     let mut left = variables;
     'variables: while let Some((v, outer)) = left.split_last() {
-        whole = generalize(alloc, v, &whole)?;
+        let next = generalize(alloc, v, &whole);
+        drop(whole);
+        whole = next?;
         left = outer;
     }
     Ok(whole)

@@ -107,10 +107,25 @@ fn put_own(
     ensures avoid { OnOk result (map (nameless []) avoid.new.items ≡ map (nameless []) avoid.old.items ++ free (own_name (map (nameless []) avoid.old.items) (v.now.0, ty.now)) ∷ []) }
     ensures whole { OnOk result (whole.new ≡ instance_of whole.old.types (whole.old.terms ++ (free (own_name (map (nameless []) avoid.old.items) (v.now.0, ty.now)), (u.now.0, ty.now)) ∷ [])) }
 {
-    let apart = Variable::new(u.name(), ty)?;
     let own = own_name(alloc, avoid, v.name(), ty)?;
-    let term = occurrence(alloc, &own)?;
-    whole.add_term(alloc, &term, &apart)?;
+    let apart = Variable::new(u.name(), ty)?;
+    put_term(alloc, &own, &apart, avoid, whole)
+}
+
+// Puts the variable for the one that is called apart at the end of both.
+fn put_term(
+    alloc: Global,
+    own: &Variable,
+    apart: &Variable,
+    avoid: &mut Vec<Term>,
+    whole: &mut Instance,
+) -> Result<(), AllocError>
+    requires { own.now.1 ≡ apart.now.1 }
+    ensures avoid { OnOk result (map (nameless []) avoid.new.items ≡ map (nameless []) avoid.old.items ++ free own.now ∷ []) }
+    ensures whole { OnOk result (whole.new ≡ instance_of whole.old.types (whole.old.terms ++ (free own.now, apart.now) ∷ [])) }
+{
+    let term = occurrence(alloc, own)?;
+    whole.add_term(alloc, &term, apart)?;
     avoid.push(term)?;
     Ok(())
 }

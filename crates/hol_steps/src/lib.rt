@@ -1,6 +1,8 @@
 //! Steps of the functions on goals, for callers that know that they apply: the goals that are left, with the justification.
 //!
 //! Calls that answer a `Result` answer its memory error where memory is short, and nowhere else.
+//!
+//! A theorem that was used is let go by a call of `drop`: where a scope ends with it, a check goes through the drops of all its parts.
 #![tactic(auto)]
 
 mod applications;

@@ -1,9 +1,12 @@
 //! The step that matches the conclusion.
-ghost use Rattle.std.specs.Prelude.{◌≡◌, ◌∷◌, ◌++◌, [], map, drop, length, IfOk, IfSome, OnOk, IsTrue, MatchOption, Some, None};
+ghost use Rattle.std.specs.Prelude.{◌≡◌, ◌∷◌, ◌++◌, ℕ, true, false, List, [], map, drop, length, IfOk, IfSome, OnOk, IsTrue, MatchOption, Some, None};
 ghost use Rattle.std.specs.Option.{option_map};
 ghost use Rattle.std.specs.FinSet as set;
+ghost use Rattle.hol_types.specs.Tree.{TypeTree};
 ghost use Rattle.hol_terms.specs.Named.{named_type};
 ghost use Rattle.hol_terms.specs.Nameless.{nameless};
+ghost use Rattle.hol_terms.specs.Scoped.{binds};
+ghost use Rattle.hol_subst.specs.FreeName.{is_taken};
 ghost use Rattle.hol_subst.specs.Substitution.{variable_inst};
 ghost use Rattle.hol_formulas.specs.Equation.{bool_type};
 ghost use Rattle.hol_formulas.specs.Formula.{dest_forall};
@@ -15,7 +18,8 @@ ghost use Rattle.hol_match.specs.Matching.{matched};
 ghost use Rattle.hol_match.specs.Patterns.{is_apart};
 ghost use Rattle.hol_goal.specs.Arguments.{Theorem};
 ghost use Rattle.hol_just.specs.Leaving.{concluding};
-ghost use Rattle.hol_just.specs.MatchMp.{own_variables, undetermined, left_open, completed, existentials, premise_at, match_mp_tac};
+ghost use Rattle.hol_just.specs.MatchMp.{own_variables, generalized_concl, opened, undetermined, left_open, completed, existentials, premise_at, match_mp_tac};
+ghost use Rattle.hol_just.specs.QuantifierTacs.{terms_by};
 ghost use Rattle.hol_just.specs.Answering.{IsJustified};
 ghost use Rattle.hol_steps.specs.Matching.{IsFound, LeavesByGeneral};
 
@@ -39,13 +43,33 @@ pub fn match_mp_step(alloc: Global, th: &Given, goal: &Goal) -> Result<Option<St
     conclusion_typed(th);
     let own = own_variables(alloc, th)?;
     let opened = opened_apart(alloc, th, goal, &own)?;
-    let Some((s, t)) = dest_imp(&opened.body) else {
+    opened_step(alloc, th, goal, &own, &opened)
+}
+
+// The same step, by what stands under the outer quantifiers.
+fn opened_step(
+    alloc: Global,
+    th: &Given,
+    goal: &Goal,
+    own: &[Variable],
+    under: &Opened,
+) -> Result<Option<Step>, AllocError>
+    requires own { own.now ≡ own_variables th.now }
+    requires opened { opened (terms_by th.now goal.now) (generalized_concl th.now) ≡ record { variables = under.now.variables.items; body = nameless [] under.now.body } }
+    requires new { (v : List ℕ × TypeTree) → binds under.now.variables.items v ≡ true → is_taken (terms_by th.now goal.now) v.0 ≡ false }
+    requires apart { is_apart (set.items (given_sequent th.now).hyps) (nameless [] under.now.body) ≡ true }
+    requires typed { named_type under.now.body ≡ Some bool_type }
+    requires last { dest_forall (nameless [] under.now.body) ≡ None }
+    ensures goals { IfOk result (λ o. match_mp_tac th.now goal.now ≡ option_map (λ step. step.goals.items) o) }
+    ensures valid { IfOk result (λ o. IfSome o (λ step. IsJustified (Theorem th.now) goal.now step)) }
+{
+    let Some((s, t)) = dest_imp(&under.body) else {
         return Ok(None);
     };
     let Some(found) = matching_instance(alloc, th, goal, t)? else {
         return Ok(None);
     };
-    let step = premise_step(alloc, th, goal, &own, &opened, s, t, found)?;
+    let step = premise_step(alloc, th, goal, own, under, s, t, found)?;
     Ok(Some(step))
 }
 
@@ -89,9 +113,29 @@ fn premise_step(
     ensures just { IfOk result (λ step. LeavesByGeneral th.now opened.now.variables.items (left_open own.now opened.now.variables.items (nameless [] s.now, nameless [] t.now) found) (instantiated (completed (set.items (given_sequent th.now).hyps) own.now opened.now.variables.items (nameless [] s.now, nameless [] t.now) found) 0 (nameless [] s.now)) goal.now.conclusion step.just) }
 {
     let variables = undetermined(alloc, after(own, &opened.variables), s, t, &found)?;
-    let whole = completed(alloc, th, own, &opened.variables, s, t, &variables, found)?;
-    let premise = at_instance(alloc, &whole, s)?;
+    let premise = premise_of(alloc, th, own, opened, s, t, &variables, found)?;
     leaving_premise(alloc, th, goal, own, opened, &variables, &premise)
+}
+
+// The premise `s` at the instance, where the variables are those that `t` lacks.
+fn premise_of(
+    alloc: Global,
+    th: &Given,
+    own: &[Variable],
+    opened: &Opened,
+    s: &Term,
+    t: &Term,
+    variables: &[Variable],
+    found: Instance,
+) -> Result<Term, AllocError>
+    requires variables { variables.now ≡ left_open own.now opened.now.variables.items (nameless [] s.now, nameless [] t.now) found }
+    requires premise { named_type s.now ≡ Some bool_type }
+    requires instance { matches.IsWellTyped found }
+    ensures is { IfOk result (λ p. nameless [] p ≡ instantiated (completed (set.items (given_sequent th.now).hyps) own.now opened.now.variables.items (nameless [] s.now, nameless [] t.now) found) 0 (nameless [] s.now)) }
+    ensures typed { IfOk result (λ p. named_type p ≡ Some bool_type) }
+{
+    let whole = completed(alloc, th, own, &opened.variables, s, t, variables, found)?;
+    at_instance(alloc, &whole, s)
 }
 
 // The step to the premise, for some values of the variables.
@@ -111,11 +155,44 @@ fn leaving_premise(
     ensures goals { IfOk result (λ step. step.goals.items ≡ concluding goal.now (existentials variables.now (nameless [] premise.now)) ∷ []) }
     ensures just { IfOk result (λ step. LeavesByGeneral th.now opened.now.variables.items variables.now (nameless [] premise.now) goal.now.conclusion step.just) }
 {
+    let just = leaving_by(alloc, th, goal, own, opened, variables, premise)?;
+    let left = premise_goal(alloc, goal, variables, premise)?;
+    leaving_one(alloc, left, just)
+}
+
+// The goal whose conclusion is that the premise holds for some values of the variables.
+fn premise_goal(
+    alloc: Global,
+    goal: &Goal,
+    variables: &[Variable],
+    premise: &Term,
+) -> Result<Goal, AllocError>
+    requires { named_type premise.now ≡ Some bool_type }
+    ensures { IfOk result (λ g. g ≡ concluding goal.now (existentials variables.now (nameless [] premise.now))) }
+{
     let whole = existentials(alloc, variables, premise)?;
-    let left = goal.with_conclusion(alloc, &whole)?;
+    goal.with_conclusion(alloc, &whole)
+}
+
+// Why that goal is left: by the theorem, generalized over its own variables.
+fn leaving_by(
+    alloc: Global,
+    th: &Given,
+    goal: &Goal,
+    own: &[Variable],
+    opened: &Opened,
+    variables: &[Variable],
+    premise: &Term,
+) -> Result<Just, AllocError>
+    requires own { own.now ≡ own_variables th.now }
+    requires premise { named_type premise.now ≡ Some bool_type }
+    requires body { named_type opened.now.body ≡ Some bool_type }
+    requires last { dest_forall (nameless [] opened.now.body) ≡ None }
+    ensures { IfOk result (λ just. LeavesByGeneral th.now opened.now.variables.items variables.now (nameless [] premise.now) goal.now.conclusion just) }
+{
+    let formula = universals(alloc, &opened.variables, &opened.body)?;
     let general = generalized(alloc, th, own)?;
     conclusion_typed(&general);
-    let formula = universals(alloc, &opened.variables, &opened.body)?;
     let just = Just::match_mp_tac(
         alloc,
         &general,
@@ -123,8 +200,9 @@ fn leaving_premise(
         variables,
         premise,
         goal.conclusion(),
-    )?;
-    leaving_one(alloc, left, just)
+    );
+    drop(general);
+    just
 }
 
 // Those of the variables that come after as many as these.

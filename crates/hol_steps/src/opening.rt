@@ -1,8 +1,8 @@
 //! A theorem's outer quantifiers taken off.
-ghost use Rattle.std.specs.Prelude.{◌≡◌, ◌||◌, ℕ, true, false, List, [], ◌∷◌, map, IfOk, OnOk, Some, None};
+ghost use Rattle.std.specs.Prelude.{◌≡◌, ◌||◌, ◌++◌, ℕ, true, false, List, [], ◌∷◌, map, IfOk, OnOk, Some, None};
 ghost use Rattle.hol_types.specs.Tree.{TypeTree};
-ghost use Rattle.hol_terms.specs.Named.{named_type};
-ghost use Rattle.hol_terms.specs.Nameless.{Nameless, nameless, base_of, free_occurrences};
+ghost use Rattle.hol_terms.specs.Named.{var, named_type};
+ghost use Rattle.hol_terms.specs.Nameless.{Nameless, nameless, free, base_of, free_occurrences};
 ghost use Rattle.hol_terms.specs.Scoped.{binds};
 ghost use Rattle.hol_subst.specs.FreeName.{is_taken};
 ghost use Rattle.hol_subst.specs.Pairs.{nameless_pairs, HasBadPair};
@@ -43,15 +43,51 @@ impl Opened {
         let mut rest = p;
         'binders: while let Some((x, q)) = dest_forall(rest) {
             let v = apart(alloc, &avoid, x)?;
-            let variable = occurrence(alloc, &v)?;
-            put_pair(alloc, &mut pairs, &variable, x)?;
-            avoid.push(variable)?;
-            variables.push(v)?;
+            put_apart(alloc, v, x, &mut avoid, &mut pairs, &mut variables)?;
             rest = q;
         }
         let body = vsubst_good(alloc, &pairs, rest)?;
         Ok(Opened { variables, body })
     }
+}
+
+// Puts the variable that `x` is called at the end of what is to be avoided and of the variables, and the pair of it and `x` before the others.
+fn put_apart(
+    alloc: Global,
+    v: Variable,
+    x: &Variable,
+    avoid: &mut Vec<Term>,
+    pairs: &mut Vec<(Term, Term)>,
+    variables: &mut Vec<Variable>,
+) -> Result<(), AllocError>
+    requires { v.1 ≡ x.now.1 }
+    ensures avoid { OnOk result (avoid.new.items ≡ avoid.old.items ++ var v ∷ []) }
+    ensures put { OnOk result (nameless_pairs pairs.new.items ≡ (free v, x.now) ∷ nameless_pairs pairs.old.items) }
+    ensures good { OnOk result ((HasBadPair pairs.old.items → ⊥) → HasBadPair pairs.new.items → ⊥) }
+    ensures variables { OnOk result (variables.new.items ≡ variables.old.items ++ v ∷ []) }
+{
+    put_occurrence(alloc, &v, x, avoid, pairs)?;
+    variables.push(v)?;
+    Ok(())
+}
+
+// Puts the variable, as a term, at the end of what is to be avoided, and the pair of it and `x` before the others.
+fn put_occurrence(
+    alloc: Global,
+    v: &Variable,
+    x: &Variable,
+    avoid: &mut Vec<Term>,
+    pairs: &mut Vec<(Term, Term)>,
+) -> Result<(), AllocError>
+    requires { v.now.1 ≡ x.now.1 }
+    ensures avoid { OnOk result (avoid.new.items ≡ avoid.old.items ++ var v.now ∷ []) }
+    ensures put { OnOk result (nameless_pairs pairs.new.items ≡ (free v.now, x.now) ∷ nameless_pairs pairs.old.items) }
+    ensures good { OnOk result ((HasBadPair pairs.old.items → ⊥) → HasBadPair pairs.new.items → ⊥) }
+{
+    let variable = occurrence(alloc, v)?;
+    put_pair(alloc, pairs, &variable, x)?;
+    avoid.push(variable)?;
+    Ok(())
 }
 
 // Puts the pair of the term and the variable before the others.

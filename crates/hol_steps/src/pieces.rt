@@ -2,22 +2,25 @@
 ghost use Rattle.std.specs.Prelude.{◌≡◌, ◌∷◌, ◌++◌, ◌||◌, List, map, IfOk, Some, []};
 ghost use Rattle.std.specs.List.{list_any};
 ghost use Rattle.hol_terms.specs.Named.{named_type};
-ghost use Rattle.hol_terms.specs.Nameless.{Nameless, nameless};
+ghost use Rattle.hol_terms.specs.Nameless.{Nameless, free, nameless};
 ghost use Rattle.hol_terms.specs.Alpha.{alpha_eq};
+ghost use Rattle.hol_subst.specs.Closing.{open_with};
 ghost use Rattle.hol_formulas.specs.Equation.{bool_type};
 ghost use Rattle.hol_formulas.specs.Formula.{is_truth, dest_conj, dest_disj, dest_exists};
+ghost use Rattle.hol_kernel.specs.Given.{assumed};
 ghost use Rattle.hol_just.specs.Leaving.{goal_terms};
 ghost use Rattle.hol_goal.specs.Answer.{testing};
 ghost use Rattle.hol_goal.specs.UsedView.{used_value};
-ghost use Rattle.hol_just.specs.Strip.{AvoidedValue, avoiding, Conjuncts, Disjuncts, Property, Kept, plain_piece, piece};
+ghost use Rattle.hol_just.specs.Strip.{AvoidedValue, avoiding, waiting, Conjuncts, Disjuncts, Property, Kept, plain_piece, piece};
+ghost use Rattle.hol_just.specs.Justifies.{ClosesByGiven, ClosesByFalsity, LeavesConjuncts, LeavesCases, LeavesChosen};
 ghost use Rattle.hol_steps.specs.Fresh.{AreAlike, AvoidAlike, IsNewBy, abstraction_of};
 ghost use Rattle.hol_steps.specs.Parts.{AreParts, Becomes};
 
 use crate::fresh::{FreshVariable, fresh_variable};
-use crate::quantifiers::at;
+use crate::quantifiers::at_variable;
 use crate::steps::assume;
 use crate::waiting::Waiting;
-use hol_formulas::{dest_conj, dest_disj, dest_exists, is_falsity, is_truth, occurrence};
+use hol_formulas::{dest_conj, dest_disj, dest_exists, is_falsity, is_truth};
 use hol_goal::{Goal, Names, Used};
 use hol_just::{Just, assumption};
 use hol_terms::{Term, Variable, add_copies};
@@ -62,8 +65,8 @@ pub(crate) fn becomes(
         return disjuncts(alloc, formula, p, q, rest, used);
     }
     if let Some((x, p)) = dest_exists(formula) {
-        let v = new_variable(alloc, others, names, formula, x, &rest)?;
-        return Ok(Becoming::Parts(property(alloc, formula, x, p, v, rest, used)?));
+        let parts = new_property(alloc, others, names, formula, x, p, rest, used)?;
+        return Ok(Becoming::Parts(parts));
     }
     Ok(Becoming::Parts(plain(alloc, formula, rest, used)?))
 }
@@ -83,11 +86,22 @@ fn conjuncts(
     requires parts { dest_conj (nameless [] piece.now) ≡ Some (nameless [] p.now, nameless [] q.now) }
     ensures { IfOk result (λ parts. (avoided : AvoidedValue) → AreParts avoided (nameless [] piece.now) rest (used_value used) (Conjuncts (nameless [] p.now) (nameless [] q.now)) parts) }
 {
-    let just = Just::conjuncts(alloc, &assumption(piece)?)?;
+    let just = taking_apart(alloc, piece)?;
     let mut rest = rest;
     rest.put(q)?;
     rest.put(p)?;
     one_part(alloc, rest, just, used)
+}
+
+// Why both conjuncts are assumed.
+fn taking_apart(alloc: Global, piece: &Term) -> Result<Just, AllocError>
+    requires { named_type piece.now ≡ Some bool_type }
+    ensures { IfOk result (λ just. LeavesConjuncts (assumed (nameless [] piece.now)) just) }
+{
+    let given = assumption(piece)?;
+    let just = Just::conjuncts(alloc, &given);
+    drop(given);
+    just
 }
 
 // Each disjunct is a piece, on a goal of its own, which costs a turn.
@@ -112,16 +126,75 @@ fn disjuncts(
     if turns == 0 {
         return Ok(Becoming::RunsOut(tested));
     }
-    let just = Just::disj_cases_tac(alloc, &assumption(piece)?)?;
-    let mut left = rest.copy(alloc)?;
-    left.put(p)?;
-    let mut right = rest;
-    right.put(q)?;
     let used = Used {
         left: turns - 1,
         tested,
     };
-    Ok(Becoming::Parts(two_parts(alloc, left, right, just, used)?))
+    Ok(Becoming::Parts(cases(alloc, piece, p, q, rest, used)?))
+}
+
+// Each disjunct is a piece, where the turn is paid.
+fn cases(
+    alloc: Global,
+    piece: &Term,
+    p: &Term,
+    q: &Term,
+    rest: Waiting,
+    used: Used,
+) -> Result<Parts, AllocError>
+    requires formula { named_type piece.now ≡ Some bool_type }
+    requires first { named_type p.now ≡ Some bool_type }
+    requires second { named_type q.now ≡ Some bool_type }
+    ensures waiting { IfOk result (λ parts. parts.waiting.items ≡ waiting (nameless [] q.now ∷ rest.pieces) rest.goal ∷ waiting (nameless [] p.now ∷ rest.pieces) rest.goal ∷ []) }
+    ensures just { IfOk result (λ parts. LeavesCases (assumed (nameless [] piece.now)) parts.just) }
+    ensures used { IfOk result (λ parts. used_value parts.used ≡ used_value used) }
+{
+    let left = copy_with(alloc, &rest, p)?;
+    let mut right = rest;
+    right.put(q)?;
+    let just = splitting(alloc, piece)?;
+    two_parts(alloc, left, right, just, used)
+}
+
+// Equal pieces on an equal goal, with one before them.
+fn copy_with(alloc: Global, rest: &Waiting, piece: &Term) -> Result<Waiting, AllocError>
+    requires { named_type piece.now ≡ Some bool_type }
+    ensures { IfOk result (λ w. w ≡ waiting (nameless [] piece.now ∷ rest.now.pieces) rest.now.goal) }
+{
+    let mut copy = rest.copy(alloc)?;
+    copy.put(piece)?;
+    Ok(copy)
+}
+
+// Why either disjunct is assumed.
+fn splitting(alloc: Global, piece: &Term) -> Result<Just, AllocError>
+    requires { named_type piece.now ≡ Some bool_type }
+    ensures { IfOk result (λ just. LeavesCases (assumed (nameless [] piece.now)) just) }
+{
+    let given = assumption(piece)?;
+    let just = Just::disj_cases_tac(alloc, &given);
+    drop(given);
+    just
+}
+
+// What is said to exist is a piece, at a variable of a new name, that of nothing in the pieces, the goal and the others.
+fn new_property(
+    alloc: Global,
+    others: &[Term],
+    names: &Names,
+    piece: &Term,
+    x: &Variable,
+    p: &Term,
+    rest: Waiting,
+    used: Used,
+) -> Result<Parts, AllocError>
+    requires formula { named_type piece.now ≡ Some bool_type }
+    requires body { named_type p.now ≡ Some bool_type }
+    requires parts { dest_exists (nameless [] piece.now) ≡ Some (abstraction_of x.now p.now) }
+    ensures { IfOk result (λ parts. (avoided : AvoidedValue) → AvoidAlike (avoiding (map (nameless []) others.now) names.now) avoided → AreParts avoided (nameless [] piece.now) rest (used_value used) (Property (abstraction_of x.now p.now)) parts) }
+{
+    let v = new_variable(alloc, others, names, piece, x, &rest)?;
+    property(alloc, piece, x, p, v, rest, used)
 }
 
 // What is said to exist is a piece, at the variable, for whose new name names were tested.
@@ -142,11 +215,57 @@ fn property(
 {
     let FreshVariable { variable, tested } = v;
     let used = tested_more(used, tested)?;
-    let just = Just::choose_tac(alloc, &variable, &assumption(piece)?)?;
-    let chosen = at(alloc, x, p, &occurrence(alloc, &variable)?)?;
+    let just = choosing(alloc, &variable, piece)?;
+    property_part(alloc, x, p, &variable, rest, just, used)
+}
+
+// The property of the variable is the first piece.
+fn property_part(
+    alloc: Global,
+    x: &Variable,
+    p: &Term,
+    v: &Variable,
+    rest: Waiting,
+    just: Just,
+    used: Used,
+) -> Result<Parts, AllocError>
+    requires body { named_type p.now ≡ Some bool_type }
+    requires typed { v.now.1 ≡ x.now.1 }
+    ensures waiting { IfOk result (λ parts. parts.waiting.items ≡ waiting (open_with (free v.now) 0 (nameless (x.now ∷ []) p.now) ∷ rest.pieces) rest.goal ∷ []) }
+    ensures just { IfOk result (λ parts. parts.just ≡ just) }
+    ensures used { IfOk result (λ parts. used_value parts.used ≡ used_value used) }
+{
+    let rest = with_property(alloc, x, p, v, rest)?;
+    one_part(alloc, rest, just, used)
+}
+
+// The property of the variable before the other pieces.
+fn with_property(
+    alloc: Global,
+    x: &Variable,
+    p: &Term,
+    v: &Variable,
+    rest: Waiting,
+) -> Result<Waiting, AllocError>
+    requires body { named_type p.now ≡ Some bool_type }
+    requires typed { v.now.1 ≡ x.now.1 }
+    ensures { IfOk result (λ w. w ≡ waiting (open_with (free v.now) 0 (nameless (x.now ∷ []) p.now) ∷ rest.pieces) rest.goal) }
+{
+    let chosen = at_variable(alloc, x, p, v)?;
     let mut rest = rest;
     rest.put(&chosen)?;
-    one_part(alloc, rest, just, used)
+    Ok(rest)
+}
+
+// Why the property of the variable is assumed.
+fn choosing(alloc: Global, v: &Variable, piece: &Term) -> Result<Just, AllocError>
+    requires { named_type piece.now ≡ Some bool_type }
+    ensures { IfOk result (λ just. LeavesChosen v.now (assumed (nameless [] piece.now)) just) }
+{
+    let given = assumption(piece)?;
+    let just = Just::choose_tac(alloc, v, &given);
+    drop(given);
+    just
 }
 
 // These names were tested too, after the others.
@@ -166,17 +285,39 @@ fn plain(alloc: Global, piece: &Term, rest: Waiting, used: Used) -> Result<Parts
     ensures { IfOk result (λ parts. (avoided : AvoidedValue) → AreParts avoided (nameless [] piece.now) rest (used_value used) (plain_piece rest.goal (nameless [] piece.now)) parts) }
 {
     if is_falsity(piece) {
-        let just = Just::contr_tac(alloc, rest.goal().conclusion(), &assumption(piece)?)?;
+        let just = contradicting(alloc, rest.goal().conclusion(), piece)?;
         return Ok(no_part(alloc, just, used));
     }
     if piece.alpha_equivalent(rest.goal().conclusion()) {
-        let just = Just::accept_tac(alloc, &assumption(piece)?)?;
+        let just = accepting(alloc, piece)?;
         return Ok(no_part(alloc, just, used));
     }
     if is_dropped(piece, rest.goal()) {
         return one_part(alloc, rest, Just::none(alloc), used);
     }
     kept(alloc, piece, rest, used)
+}
+
+// Why this conclusion is closed by the piece, `F`.
+fn contradicting(alloc: Global, conclusion: &Term, piece: &Term) -> Result<Just, AllocError>
+    requires { named_type piece.now ≡ Some bool_type }
+    ensures { IfOk result (λ just. ClosesByFalsity (nameless [] conclusion.now) (assumed (nameless [] piece.now)) just) }
+{
+    let given = assumption(piece)?;
+    let just = Just::contr_tac(alloc, conclusion, &given);
+    drop(given);
+    just
+}
+
+// Why a conclusion that is the piece is closed by it.
+fn accepting(alloc: Global, piece: &Term) -> Result<Just, AllocError>
+    requires { named_type piece.now ≡ Some bool_type }
+    ensures { IfOk result (λ just. ClosesByGiven (assumed (nameless [] piece.now)) just) }
+{
+    let given = assumption(piece)?;
+    let just = Just::accept_tac(alloc, &given);
+    drop(given);
+    just
 }
 
 // The piece is the newest assumption.

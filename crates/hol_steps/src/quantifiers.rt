@@ -77,8 +77,7 @@ pub fn x_gen_step(
     ensures goals { IfOk result (λ step. step.goals.items ≡ concluding goal.now (open_with (free v.now) 0 (nameless (x.now ∷ []) p.now)) ∷ []) }
     ensures just { IfOk result (λ step. LeavesProperty v.now step.just) }
 {
-    let variable = occurrence(alloc, v)?;
-    let left = instance(alloc, goal, x, p, &variable)?;
+    let left = instance_at(alloc, goal, x, p, v)?;
     let just = Just::gen_tac(alloc, v)?;
     leaving_one(alloc, left, just)
 }
@@ -99,6 +98,22 @@ pub fn exists_step(
     let left = instance(alloc, goal, x, p, t)?;
     let just = Just::exists_tac(alloc, goal.conclusion(), t)?;
     leaving_one(alloc, left, just)
+}
+
+// The goal with the conclusion `p`, with the variable for `x`.
+fn instance_at(
+    alloc: Global,
+    goal: &Goal,
+    x: &Variable,
+    p: &Term,
+    v: &Variable,
+) -> Result<Goal, AllocError>
+    requires same { v.now.1 ≡ x.now.1 }
+    requires body { named_type p.now ≡ Some bool_type }
+    ensures { IfOk result (λ g. g ≡ concluding goal.now (open_with (free v.now) 0 (nameless (x.now ∷ []) p.now))) }
+{
+    let conclusion = at_variable(alloc, x, p, v)?;
+    goal.with_conclusion(alloc, &conclusion)
 }
 
 // The goal with the conclusion `p`, with `t` for `x`.
@@ -128,6 +143,22 @@ pub(crate) fn at(alloc: Global, x: &Variable, p: &Term, t: &Term) -> Result<Term
     let own = occurrence(alloc, x)?;
     pairs.push((t.copy()?, own))?;
     substituted(vsubst(alloc, &pairs, p))
+}
+
+/// `p` with the variable for `x`.
+pub(crate) fn at_variable(
+    alloc: Global,
+    x: &Variable,
+    p: &Term,
+    v: &Variable,
+) -> Result<Term, AllocError>
+    requires same { v.now.1 ≡ x.now.1 }
+    requires body { named_type p.now ≡ Some bool_type }
+    ensures is { IfOk result (λ r. nameless [] r ≡ open_with (free v.now) 0 (nameless (x.now ∷ []) p.now)) }
+    ensures typed { IfOk result (λ r. named_type r ≡ Some bool_type) }
+{
+    let variable = occurrence(alloc, v)?;
+    at(alloc, x, p, &variable)
 }
 
 // The term that was substituted, where no pair was bad.

@@ -242,46 +242,36 @@ names_outside pairs t r m = m.names
 pub variant_base : (avoid : Avoided) (v u : Var) → IsVariant avoid v u → base_of u.0 ≡ base_of v.0
 variant_base avoid v u h = ap base_of h.name.is ∙ base_with_primes h.name.primes v.0
 
--- ---- the same for what the code has at its ends: an option, which is none where nothing changed
+-- ---- the same for what the code has at its ends
 module _ (pairs : List (TypeTree × List ℕ)) (old new : Variables) where
-  variable_part : (v u : Var) (o : Option Named) → KeepsTypes pairs old new → u ≡ image pairs old new v → unwrap_or o (var v) ≡ var u → IsInstance pairs old new (var v) (unwrap_or o (var v))
-  variable_part v u o h p q = subst (λ (r : Named). IsInstance pairs old new (var v) r) (sym (q ∙ ap var p)) (instance_var pairs old new v h)
+  pub variable_at : (v u : Var) (t r : Named) → t ≡ var v → KeepsTypes pairs old new → u ≡ image pairs old new v → r ≡ var u → IsInstance pairs old new t r
+  variable_at v u t r e h p q = subst (λ (x : Named). IsInstance pairs old new x r) (sym e) (subst (λ (r : Named). IsInstance pairs old new (var v) r) (sym (q ∙ ap var p)) (instance_var pairs old new v h))
 
-  pub variable_at : (v u : Var) (t : Named) (o : Option Named) → t ≡ var v → KeepsTypes pairs old new → u ≡ image pairs old new v → unwrap_or o (var v) ≡ var u → IsInstance pairs old new t (unwrap_or o t)
-  variable_at v u t o e h p q = subst (λ (x : Named). IsInstance pairs old new x (unwrap_or o x)) (sym e) (variable_part v u o h p q)
+  pub constant_at : (c : List ℕ) (s : TypeTree) (t r : Named) → t ≡ constant c s → r ≡ constant c (type_subst pairs s) → IsInstance pairs old new t r
+  constant_at c s t r e q = subst (λ (x : Named). IsInstance pairs old new x r) (sym e) (subst (λ (r : Named). IsInstance pairs old new (constant c s) r) (sym q) (instance_constant pairs old new c s))
 
-  pub constant_at : (c : List ℕ) (s : TypeTree) (t : Named) (o : Option Named) → t ≡ constant c s → unwrap_or o (constant c s) ≡ constant c (type_subst pairs s) → IsInstance pairs old new t (unwrap_or o t)
-  constant_at c s t o e q = subst (λ (x : Named). IsInstance pairs old new x (unwrap_or o x)) (sym e) (subst (λ (r : Named). IsInstance pairs old new (constant c s) r) (sym q) (instance_constant pairs old new c s))
-
-  application_part : (f x : Named) (g y o : Option Named) → IsInstance pairs old new f (unwrap_or g f) → IsInstance pairs old new x (unwrap_or y x) → unwrap_or o (comb f x) ≡ comb (unwrap_or g f) (unwrap_or y x) → IsInstance pairs old new (comb f x) (unwrap_or o (comb f x))
-  application_part f x g y o m n q = subst (λ (r : Named). IsInstance pairs old new (comb f x) r) (sym q) (instance_comb pairs old new f x (unwrap_or g f) (unwrap_or y x) m n)
-
-  pub application_at : (f x t : Named) (g y o : Option Named) → t ≡ comb f x → IsInstance pairs old new f (unwrap_or g f) → IsInstance pairs old new x (unwrap_or y x) → unwrap_or o (comb f x) ≡ comb (unwrap_or g f) (unwrap_or y x) → IsInstance pairs old new t (unwrap_or o t)
-  application_at f x t g y o e m n q = subst (λ (z : Named). IsInstance pairs old new z (unwrap_or o z)) (sym e) (application_part f x g y o m n q)
+  pub application_at : (f x t g y r : Named) → t ≡ comb f x → IsInstance pairs old new f g → IsInstance pairs old new x y → r ≡ comb g y → IsInstance pairs old new t r
+  application_at f x t g y r e m n q = subst (λ (z : Named). IsInstance pairs old new z r) (sym e) (subst (λ (r : Named). IsInstance pairs old new (comb f x) r) (sym q) (instance_comb pairs old new f x g y m n))
 
   -- the parts of an application that fits still fit
-  pub fits_at : (f x t : Named) (g y : Option Named) → t ≡ comb f x → IsInstance pairs old new f (unwrap_or g f) → IsInstance pairs old new x (unwrap_or y x) → (s : TypeTree) → named_type t ≡ Some s → IsSome (named_type (comb (unwrap_or g f) (unwrap_or y x)))
-  fits_at f x t g y e m n s h = ap is_some ((instance_comb pairs old new f x (unwrap_or g f) (unwrap_or y x) m n).types s (sym (ap named_type e) ∙ h))
+  pub fits_at : (f x t g y : Named) → t ≡ comb f x → IsInstance pairs old new f g → IsInstance pairs old new x y → (s : TypeTree) → named_type t ≡ Some s → IsSome (named_type (comb g y))
+  fits_at f x t g y e m n s h = ap is_some ((instance_comb pairs old new f x g y m n).types s (sym (ap named_type e) ∙ h))
 
-  abstraction_part : (v u : Var) (b : Named) (c o : Option Named)
+  abstraction_part : (v u : Var) (b c : Named)
       → IsVariant (map (λ t. nameless [] t) (images_without pairs old new v (add_all [] (free_occurrences (nameless [] b))))) (variable_inst pairs v) u
-      → IsInstance pairs (v ∷ old) (u ∷ new) b (unwrap_or c b) → unwrap_or o (abs v b) ≡ abs u (unwrap_or c b)
-      → IsInstance pairs old new (abs v b) (unwrap_or o (abs v b))
-  abstraction_part v u b c o h m q =
+      → IsInstance pairs (v ∷ old) (u ∷ new) b c → IsInstance pairs old new (abs v b) (abs u c)
+  abstraction_part v u b c h m =
       let avoid : List Nameless = map (λ t. nameless [] t) (images_without pairs old new v (add_all [] (free_occurrences (nameless [] b)))) in
-      let whole : IsInstance pairs old new (abs v b) (abs u (unwrap_or c b)) = instance_abs pairs old new v u b (unwrap_or c b) (variant_base avoid (variable_inst pairs v) u h) (variant_binder pairs old new v u b h) m in
-      subst (λ (r : Named). IsInstance pairs old new (abs v b) r) (sym q) whole
+      instance_abs pairs old new v u b c (variant_base avoid (variable_inst pairs v) u h) (variant_binder pairs old new v u b h) m
 
-  pub abstraction_at : (v u : Var) (b t : Named) (c o : Option Named) → t ≡ abs v b
+  pub abstraction_at : (v u : Var) (b t c r : Named) → t ≡ abs v b
       → IsVariant (map (λ t. nameless [] t) (images_without pairs old new v (add_all [] (free_occurrences (nameless [] b))))) (variable_inst pairs v) u
-      → IsInstance pairs (v ∷ old) (u ∷ new) b (unwrap_or c b) → unwrap_or o (abs v b) ≡ abs u (unwrap_or c b)
-      → IsInstance pairs old new t (unwrap_or o t)
-  abstraction_at v u b t c o e h m q = subst (λ (z : Named). IsInstance pairs old new z (unwrap_or o z)) (sym e) (abstraction_part v u b c o h m q)
+      → IsInstance pairs (v ∷ old) (u ∷ new) b c → r ≡ abs u c → IsInstance pairs old new t r
+  abstraction_at v u b t c r e h m q = subst (λ (z : Named). IsInstance pairs old new z r) (sym e) (subst (λ (r : Named). IsInstance pairs old new (abs v b) r) (sym q) (abstraction_part v u b c h m))
 
 -- where nothing changed
 pub same_variable : (u v : Var) → true ≡ variable_eq u v → u ≡ v
 same_variable u v e = (variable_eq_decides u v).0 (sym e)
 
-pub kept_abstraction : (v u : Var) (b : Named) (c : Option Named) → is_some c ≡ false → true ≡ variable_eq u v → abs v b ≡ abs u (unwrap_or c b)
-kept_abstraction v u b None h e = ap (λ w. abs w b) (sym (same_variable u v e))
-kept_abstraction v u b (Some c) h e = absurd (cc)
+pub kept_abstraction : (v u : Var) (b c : Named) → c ≡ b → true ≡ variable_eq u v → abs v b ≡ abs u c
+kept_abstraction v u b c h e = ap (λ z. abs v z) (sym h) ∙ ap (λ w. abs w c) (sym (same_variable u v e))

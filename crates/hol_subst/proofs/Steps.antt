@@ -67,8 +67,8 @@ untouched ps t e = record {
 }
 
 -- ---- cases
-pub at_var : (ps : List (Named × (List ℕ × TypeTree))) (t : Named) (v : List ℕ × TypeTree) (o : Option Named) → t ≡ var v → unwrap_or o (var v) ≡ given ps v → IsResult ps t (unwrap_or o t)
-at_var ps t v o e h = subst (λ x. IsResult ps x (unwrap_or o x)) (sym e) (record {
+pub at_var : (ps : List (Named × (List ℕ × TypeTree))) (t : Named) (v : List ℕ × TypeTree) (r : Named) → t ≡ var v → r ≡ given ps v → IsResult ps t r
+at_var ps t v r e h = subst (λ x. IsResult ps x r) (sym e) (record {
   terms = ap (nameless []) h ∙ sym (nameless_given ps v) ∙ sym (shift_whole 0 0 (term_for (named_pairs ps) v) (closed_pairs ps v));
   names = h;
 })
@@ -76,8 +76,8 @@ at_var ps t v o e h = subst (λ x. IsResult ps x (unwrap_or o x)) (sym e) (recor
 pub at_const : (ps : List (Named × (List ℕ × TypeTree))) (t : Named) (c : List ℕ) (s : TypeTree) → t ≡ constant c s → IsResult ps t t
 at_const ps t c s e = subst (λ x. IsResult ps x x) (sym e) (record { terms = refl; names = refl })
 
-pub at_comb : (ps : List (Named × (List ℕ × TypeTree))) (t f x g y : Named) (o : Option Named) → t ≡ comb f x → IsResult ps f g → IsResult ps x y → unwrap_or o (comb f x) ≡ comb g y → IsResult ps t (unwrap_or o t)
-at_comb ps t f x g y o e p q r = subst (λ z. IsResult ps z (unwrap_or o z)) (sym e) (record {
+pub at_comb : (ps : List (Named × (List ℕ × TypeTree))) (t f x g y o : Named) → t ≡ comb f x → IsResult ps f g → IsResult ps x y → o ≡ comb g y → IsResult ps t o
+at_comb ps t f x g y o e p q r = subst (λ z. IsResult ps z o) (sym e) (record {
   terms = ap (nameless []) r ∙ (λ j. app (p.terms j) (q.terms j));
   names = (g, y, r, p.names, q.names);
 })
@@ -98,8 +98,8 @@ entry_renamed ps rest inner v b u f g c n p = record {
       record { terms = renamed v u b r ps rest g n own.terms; names = names_renamed v u b r ps rest g (g.fit f) c n own.names };
 }
 
-pub at_abs : (ps inner : List (Named × (List ℕ × TypeTree))) (t b r : Named) (v u : List ℕ × TypeTree) (o : Option Named) → t ≡ abs v b → IsEntry ps v b u inner → IsResult inner b r → unwrap_or o (abs v b) ≡ abs u r → IsResult ps t (unwrap_or o t)
-at_abs ps inner t b r v u o e n h k = subst (λ z. IsResult ps z (unwrap_or o z)) (sym e) (subst (λ z. IsResult ps (abs v b) z) (sym k) (n.gives r h))
+pub at_abs : (ps inner : List (Named × (List ℕ × TypeTree))) (t b r : Named) (v u : List ℕ × TypeTree) (o : Named) → t ≡ abs v b → IsEntry ps v b u inner → IsResult inner b r → o ≡ abs u r → IsResult ps t o
+at_abs ps inner t b r v u o e n h k = subst (λ z. IsResult ps z o) (sym e) (subst (λ z. IsResult ps (abs v b) z) (sym k) (n.gives r h))
 
 -- what stands for a variable by the pairs that a caller handed in
 nameless_named : (pairs : List (Named × Named)) (w : Var) → term_for (nameless_pairs pairs) w ≡ nameless [] (named_for pairs w)

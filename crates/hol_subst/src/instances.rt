@@ -1,5 +1,6 @@
 //! Instantiation of type variables in terms.
-ghost use Rattle.std.specs.Prelude.{◌≡◌, ◌⊎◌, ◌∷◌, ◌++◌, [], map, IfOk, OnOk, unwrap_or};
+ghost use Rattle.std.specs.Prelude.{◌≡◌, ◌⊎◌, ◌∷◌, ◌++◌, [], map, IfOk, OnOk, MatchOption, List, ℕ};
+ghost use Rattle.hol_types.specs.Tree.{TypeTree};
 ghost use Rattle.hol_types.specs.Subst.{type_subst};
 ghost use Rattle.hol_terms.specs.Named.{var, constant};
 ghost use Rattle.hol_terms.specs.Nameless.{nameless, free_occurrences};
@@ -12,11 +13,18 @@ ghost use Rattle.hol_subst.specs.Renaming.{image, images_without, KeepsTypes, Is
 ghost use Rattle.hol_types.specs.Filter.{name_bit, pairs_filter};
 ghost use Rattle.std.specs.Int.RustNames.{bit_or};
 
-use crate::rebuilt::{changed_abstraction, changed_application, changed_function, operator};
+use crate::rebuilt::{changed_abstraction, changed_application, changed_twice, operator};
 use crate::variants::variant;
 use hol_terms::{Scope, Term, TermNode, Variable};
 use hol_types::{Name, NameFilter, Ty};
 use std::alloc::{AllocError, Global};
+
+// The pairs, and a filter that their names are among.
+#[derive(Clone, Copy)]
+struct Types<'a> {
+    pairs: &'a [(Ty, Name)],
+    names: NameFilter,
+}
 
 /// The term with types for its type variables, of which the first pair of a name counts.
 ///
@@ -28,19 +36,9 @@ pub fn inst(alloc: Global, pairs: &[(Ty, Name)], t: &Term) -> Result<Term, Alloc
     ensures named { IfOk result (λ r. IsInst pairs.now t.now r) }
 {
     let names = NameFilter::of_pairs(pairs);
+    let types = Types { pairs, names };
     let none = NameFilter::empty();
-    match changed(
-        alloc,
-        pairs,
-        names,
-        &Scope::Outside,
-        &Scope::Outside,
-        none,
-        t,
-    )? {
-        Some(instance) => Ok(instance),
-        None => t.copy(),
-    }
+    changed(alloc, &types, &Scope::Outside, &Scope::Outside, none, t)
 }
 
 /// The terms with types for their type variables, each as [`inst`] gives it.
@@ -58,70 +56,48 @@ pub(crate) fn inst_all(
     Ok(instances)
 }
 
-// The instance of the term under the old binders, where the new ones stand for these; nothing where it is the term itself. The pairs'
-// names are among `names`, and those of the binders that were renamed among `renamed`: a part with none of either is passed over.
+// The instance of the term under the old binders, where the new ones stand for these. The pairs' names are among those of `types`, and
+// those of the binders that were renamed among `renamed`: a part with none of either keeps its nodes.
+//
+// A level of the term takes as little of the stack as it can: a goal may have 8,000.
 #[cycle(changed)]
 fn changed(
     alloc: Global,
-    pairs: &[(Ty, Name)],
-    names: NameFilter,
+    types: &Types<'_>,
     old: &Scope,
     new: &Scope,
     renamed: NameFilter,
     t: &Term,
-) -> Result<Option<Term>, AllocError>
-    requires types { KeepsTypes pairs.now (binders old.now) (binders new.now) }
-    requires names { names.bits ≡ pairs_filter pairs.now }
-    requires renamed { HasRenamed pairs.now (binders old.now) (binders new.now) renamed.bits }
-    ensures { IfOk result (λ r. IsInstance pairs.now (binders old.now) (binders new.now) t.now (unwrap_or r t.now)) }
+) -> Result<Term, AllocError>
+    requires types { KeepsTypes types.now.pairs.now (binders old.now) (binders new.now) }
+    requires names { types.now.names.bits ≡ pairs_filter types.now.pairs.now }
+    requires renamed { HasRenamed types.now.pairs.now (binders old.now) (binders new.now) renamed.bits }
+    ensures { IfOk result (λ r. IsInstance types.now.pairs.now (binders old.now) (binders new.now) t.now r) }
 {
-    if !t.type_filter().meets(names) && !t.filter().meets(renamed) {
-        return Ok(None);
+    if !t.type_filter().meets(types.names) && !t.filter().meets(renamed) {
+        return t.copy();
     }
     match t.node() {
-        TermNode::Var(v) => changed_variable(alloc, pairs, old, new, v),
-        TermNode::Const(c, ty) => changed_constant(alloc, pairs, c, ty),
+        TermNode::Var(v) => changed_variable(alloc, types.pairs, old, new, t, v),
+        TermNode::Const(c, ty) => changed_constant(alloc, types.pairs, t, c, ty),
         TermNode::Comb(f, x) => {
-            let (g, y) = changed_parts(alloc, pairs, names, old, new, renamed, f, x)?;
+            let y = changed(alloc, types, old, new, renamed, x)?;
+            if let Some(h) = operator(f, x) {
+                let k = changed(alloc, types, old, new, renamed, h)?;
+                return changed_twice(alloc, t, f, h, k, x, y);
+            }
+            let g = changed(alloc, types, old, new, renamed, f)?;
             changed_application(alloc, t, f, g, x, y)
         }
         TermNode::Abs(v, b) => {
-            let u = new_binder(alloc, pairs, old, new, v, b)?;
+            let u = new_binder(alloc, types.pairs, old, new, v, b)?;
             let inside_old = &Scope::Inside(v, &*old);
             let inside_new = &Scope::Inside(&u, &*new);
             let renamed = with_binder(renamed, v, &u);
-            let c = changed(alloc, pairs, names, inside_old, inside_new, renamed, b)?;
-            changed_abstraction(alloc, v, &u, b, c)
+            let c = changed(alloc, types, inside_old, inside_new, renamed, b)?;
+            changed_abstraction(alloc, t, v, &u, b, c)
         }
     }
-}
-
-// What `changed` makes of the parts of the application `f x`.
-#[cycle(changed)]
-fn changed_parts(
-    alloc: Global,
-    pairs: &[(Ty, Name)],
-    names: NameFilter,
-    old: &Scope,
-    new: &Scope,
-    renamed: NameFilter,
-    f: &Term,
-    x: &Term,
-) -> Result<(Option<Term>, Option<Term>), AllocError>
-    requires types { KeepsTypes pairs.now (binders old.now) (binders new.now) }
-    requires names { names.bits ≡ pairs_filter pairs.now }
-    requires renamed { HasRenamed pairs.now (binders old.now) (binders new.now) renamed.bits }
-    ensures function { IfOk result (λ r. IsInstance pairs.now (binders old.now) (binders new.now) f.now (unwrap_or r.0 f.now)) }
-    ensures argument { IfOk result (λ r. IsInstance pairs.now (binders old.now) (binders new.now) x.now (unwrap_or r.1 x.now)) }
-{
-    let y = changed(alloc, pairs, names, old, new, renamed, x)?;
-    let Some(h) = operator(f, x) else {
-        let g = changed(alloc, pairs, names, old, new, renamed, f)?;
-        return Ok((g, y));
-    };
-    let k = changed(alloc, pairs, names, old, new, renamed, h)?;
-    let g = changed_function(alloc, f, h, k, x, &y)?;
-    Ok((g, y))
 }
 
 // The names of the renamed binders, with that of `v` unless `u`, which stands for it, is the same.
@@ -135,39 +111,43 @@ fn with_binder(renamed: NameFilter, v: &Variable, u: &Variable) -> NameFilter
     }
 }
 
-// What stands for the variable, as a term, or nothing where it is `v`.
+// What stands for the variable, as a term: `t`, which is it, where it stays.
 #[inline(never)]
 fn changed_variable(
     alloc: Global,
     pairs: &[(Ty, Name)],
     old: &Scope,
     new: &Scope,
+    t: &Term,
     v: &Variable,
-) -> Result<Option<Term>, AllocError>
-    ensures { IfOk result (λ r. unwrap_or r (var v.now) ≡ var (image pairs.now (binders old.now) (binders new.now) v.now)) }
+) -> Result<Term, AllocError>
+    requires { t.now ≡ var v.now }
+    ensures { IfOk result (λ r. r ≡ var (image pairs.now (binders old.now) (binders new.now) v.now)) }
 {
     let u = image(alloc, pairs, old, new, v)?;
     if u.same(v) {
-        return Ok(None);
+        return t.copy();
     }
-    Ok(Some(Term::var(alloc, &u)?))
+    Term::var(alloc, &u)
 }
 
-// The instance of the constant, or nothing where its type stays.
+// The instance of the constant: `t`, which is it, where its type stays.
 #[inline(never)]
 fn changed_constant(
     alloc: Global,
     pairs: &[(Ty, Name)],
+    t: &Term,
     c: &Name,
     ty: &Ty,
-) -> Result<Option<Term>, AllocError>
-    ensures { IfOk result (λ r. unwrap_or r (constant c.now ty.now) ≡ constant c.now (type_subst pairs.now ty.now)) }
+) -> Result<Term, AllocError>
+    requires { t.now ≡ constant c.now ty.now }
+    ensures { IfOk result (λ r. r ≡ constant c.now (type_subst pairs.now ty.now)) }
 {
     let new_ty = ty.subst(alloc, pairs)?;
     if new_ty.same(ty) {
-        return Ok(None);
+        return t.copy();
     }
-    Ok(Some(Term::constant(alloc, c, &new_ty)?))
+    Term::constant(alloc, c, &new_ty)
 }
 
 // The variable that is bound in the instance of an abstraction: nothing that stands for another free variable of its body.
@@ -234,14 +214,24 @@ fn image(
 ) -> Result<Variable, AllocError>
     ensures { IfOk result (λ u. u ≡ image pairs.now (binders old.now) (binders new.now) v.now) }
 {
+    match standing(old, new, v) {
+        Some(u) => u.copy(),
+        None => instance(alloc, pairs, v),
+    }
+}
+
+// The new binder that stands for the variable, where an old one binds it.
+fn standing<'a>(old: &Scope, new: &Scope<'a>, v: &Variable) -> Option<&'a Variable>
+    ensures { (pairs : List (TypeTree × List ℕ)) → MatchOption result (image pairs (binders old.now) (binders new.now) v.now ≡ variable_inst pairs v.now) (λ u. image pairs (binders old.now) (binders new.now) v.now ≡ u.now) }
+{
     match (old, new) {
-        (Scope::Outside, _) => instance(alloc, pairs, v),
-        (Scope::Inside(_, _), Scope::Outside) => instance(alloc, pairs, v),
+        (Scope::Outside, _) => None,
+        (Scope::Inside(_, _), Scope::Outside) => None,
         (Scope::Inside(l, old), Scope::Inside(r, new)) => {
             if l.same(v) {
-                r.copy()
+                Some(*r)
             } else {
-                image(alloc, pairs, old, new, v)
+                standing(old, new, v)
             }
         }
     }

@@ -1,48 +1,54 @@
-//! Applications and abstractions made again of what became of their parts.
-ghost use Rattle.std.specs.Prelude.{◌≡◌, IfOk, IfSome, IsSome, Some, unwrap_or};
+//! Applications and abstractions made again of what became of their parts: the same nodes, where these are the same.
+ghost use Rattle.std.specs.Prelude.{◌≡◌, IfOk, IfSome, IsSome, Some};
 ghost use Rattle.hol_types.specs.Tree.{TypeTree};
 ghost use Rattle.hol_terms.specs.Named.{comb, abs, named_type};
 
 use hol_terms::{Term, TermNode, Variable};
 use std::alloc::{AllocError, Global};
 
-/// The application of what became of `f` to what became of `x`, or nothing where both stayed. It fits if the types of the application
-/// `t` still fit.
+/// The application of what became of `f` to what became of `x`: `t`, which is that of these two, where both are the same nodes. It fits if
+/// the types of `t` still fit.
 #[inline(never)]
 pub(crate) fn changed_application(
     alloc: Global,
     t: &Term,
     f: &Term,
-    g: Option<Term>,
+    g: Term,
     x: &Term,
-    y: Option<Term>,
-) -> Result<Option<Term>, AllocError>
-    requires { (s : TypeTree) → named_type t.now ≡ Some s → IsSome (named_type (comb (unwrap_or g f.now) (unwrap_or y x.now))) }
-    ensures { IfOk result (λ r. unwrap_or r (comb f.now x.now) ≡ comb (unwrap_or g f.now) (unwrap_or y x.now)) }
+    y: Term,
+) -> Result<Term, AllocError>
+    requires is { t.now ≡ comb f.now x.now }
+    requires fits { (s : TypeTree) → named_type t.now ≡ Some s → IsSome (named_type (comb g y)) }
+    ensures { IfOk result (λ r. r ≡ comb g y) }
 {
-    if g.is_none() && y.is_none() {
-        return Ok(None);
+    if g.same_node(f) && y.same_node(x) {
+        return t.copy();
     }
     // It has a type, so `t` is known to be well typed.
     let _ty = t.type_of();
-    Ok(Some(Term::application(alloc, either(&g, f), either(&y, x))?))
+    Term::application(alloc, &g, &y)
 }
 
-/// The same of `f`, which is the application of `h` to `x`, where what became of `x` is kept.
+/// The same where `f` is the application of `h` to the argument too, of which `k` and `y` came.
 #[inline(never)]
-pub(crate) fn changed_function(
+pub(crate) fn changed_twice(
     alloc: Global,
+    t: &Term,
     f: &Term,
     h: &Term,
-    k: Option<Term>,
+    k: Term,
     x: &Term,
-    y: &Option<Term>,
-) -> Result<Option<Term>, AllocError>
-    requires { (s : TypeTree) → named_type f.now ≡ Some s → IsSome (named_type (comb (unwrap_or k h.now) (unwrap_or y.now x.now))) }
-    ensures { IfOk result (λ r. unwrap_or r (comb h.now x.now) ≡ comb (unwrap_or k h.now) (unwrap_or y.now x.now)) }
+    y: Term,
+) -> Result<Term, AllocError>
+    requires is { t.now ≡ comb f.now x.now }
+    requires function { f.now ≡ comb h.now x.now }
+    requires fits { (s : TypeTree) → named_type t.now ≡ Some s → IsSome (named_type (comb (comb k y) y)) }
+    requires function_fits { (s : TypeTree) → named_type f.now ≡ Some s → IsSome (named_type (comb k y)) }
+    ensures { IfOk result (λ r. r ≡ comb (comb k y) y) }
 {
-    let own = copied(y)?;
-    changed_application(alloc, f, h, k, x, own)
+    let own = y.copy()?;
+    let g = changed_application(alloc, f, h, k, x, own)?;
+    changed_application(alloc, t, f, g, x, y)
 }
 
 /// `h`, where `f` is the application of `h` to a term that has the node of `x`: so what becomes of `x` is found once in `f x`, as in an
@@ -56,39 +62,21 @@ pub(crate) fn operator<'a>(f: &'a Term, x: &Term) -> Option<&'a Term>
     if z.same_node(x) { Some(h) } else { None }
 }
 
-// A copy, if there is a term.
-fn copied(new: &Option<Term>) -> Result<Option<Term>, AllocError>
-    ensures { IfOk result (λ r. r ≡ new.now) }
-{
-    match new {
-        Some(term) => Ok(Some(term.copy()?)),
-        None => Ok(None),
-    }
-}
-
-/// The abstraction of `u` in what became of `b`, or nothing where `u` is `v` and `b` stayed.
+/// The abstraction of `u` in what became of `b`: `t`, which is that of `v` in `b`, where `u` is `v` and `c` is the same node.
 #[inline(never)]
 pub(crate) fn changed_abstraction(
     alloc: Global,
+    t: &Term,
     v: &Variable,
     u: &Variable,
     b: &Term,
-    c: Option<Term>,
-) -> Result<Option<Term>, AllocError>
-    ensures { IfOk result (λ r. unwrap_or r (abs v.now b.now) ≡ abs u.now (unwrap_or c b.now)) }
+    c: Term,
+) -> Result<Term, AllocError>
+    requires { t.now ≡ abs v.now b.now }
+    ensures { IfOk result (λ r. r ≡ abs u.now c) }
 {
-    if c.is_none() && u.same(v) {
-        return Ok(None);
+    if c.same_node(b) && u.same(v) {
+        return t.copy();
     }
-    Ok(Some(Term::abstraction(alloc, u, either(&c, b))?))
-}
-
-// The new term, or the old one where there is none.
-fn either<'a>(new: &'a Option<Term>, old: &'a Term) -> &'a Term
-    ensures { result.now ≡ unwrap_or new.now old.now }
-{
-    match new {
-        Some(term) => term,
-        None => old,
-    }
+    Term::abstraction(alloc, u, &c)
 }

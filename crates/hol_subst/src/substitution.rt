@@ -1,5 +1,5 @@
 //! Substitution of terms for free variables.
-ghost use Rattle.std.specs.Prelude.{◌≡◌, ◌↔◌, ◌∷◌, ◌++◌, [], map, cond, IfOk, IsErrOf, IsTrue, OnOk, List, ℕ, unwrap_or};
+ghost use Rattle.std.specs.Prelude.{◌≡◌, ◌↔◌, ◌∷◌, ◌++◌, [], map, cond, IfOk, IsErrOf, IsTrue, OnOk, List, ℕ};
 ghost use Rattle.hol_types.specs.Tree.{TypeTree};
 ghost use Rattle.hol_terms.specs.Named.{var};
 ghost use Rattle.hol_terms.specs.Nameless.{nameless};
@@ -12,7 +12,7 @@ use crate::error::SubstError;
 use crate::pairs::{
     add_pair, comes_in, has_pair, may_touch, renaming, renaming_first, replacement, rest_of,
 };
-use crate::rebuilt::{changed_abstraction, changed_application, changed_function, operator};
+use crate::rebuilt::{changed_abstraction, changed_application, changed_twice, operator};
 use hol_terms::{Term, TermNode, Variable};
 use std::alloc::{AllocError, Global};
 
@@ -47,8 +47,7 @@ pub fn vsubst_good(alloc: Global, pairs: &[(Term, Term)], t: &Term) -> Result<Te
     ensures named { IfOk result (λ r. IsVsubst pairs.now t.now r) }
 {
     let pairs = first_pairs(alloc, pairs)?;
-    let changed = substituted(alloc, t, &pairs)?;
-    or_same(changed, t)
+    substituted(alloc, t, &pairs)
 }
 
 /// The terms with terms for their free variables, each as [`vsubst_good`] gives it.
@@ -116,64 +115,46 @@ fn add_first(found: &mut Vec<(Term, Variable)>, term: &Term, u: &Term) -> Result
     add_pair(found, term, v)
 }
 
-// The term with the terms of the pairs for its free variables, or nothing where it stays as it is.
+// The term with the terms of the pairs for its free variables. Parts that stay as they are keep their nodes.
+//
+// A level of the term takes as little of the stack as it can: a goal may have 8,000.
 #[cycle(substituted)]
-fn substituted(
-    alloc: Global,
-    t: &Term,
-    pairs: &[(Term, Variable)],
-) -> Result<Option<Term>, AllocError>
+fn substituted(alloc: Global, t: &Term, pairs: &[(Term, Variable)]) -> Result<Term, AllocError>
     requires { Fit pairs.now }
-    ensures { IfOk result (λ r. IsResult pairs.now t.now (unwrap_or r t.now)) }
+    ensures { IfOk result (λ r. IsResult pairs.now t.now r) }
 {
     if !may_touch(pairs, t) {
-        return Ok(None);
+        return t.copy();
     }
     match t.node() {
-        TermNode::Var(v) => at_variable(pairs, v),
-        TermNode::Const(_, _) => Ok(None),
+        TermNode::Var(v) => at_variable(pairs, t, v),
+        TermNode::Const(_, _) => t.copy(),
         TermNode::Comb(f, x) => {
-            let (function, argument) = substituted_parts(alloc, f, x, pairs)?;
+            let argument = substituted(alloc, x, pairs)?;
+            if let Some(h) = operator(f, x) {
+                let inner = substituted(alloc, h, pairs)?;
+                return changed_twice(alloc, t, f, h, inner, x, argument);
+            }
+            let function = substituted(alloc, f, pairs)?;
             changed_application(alloc, t, f, function, x, argument)
         }
         TermNode::Abs(v, b) => {
             let entry = entering(alloc, pairs, v, b)?;
             let inside = substituted(alloc, b, &entry.pairs)?;
-            changed_abstraction(alloc, v, &entry.binder, b, inside)
+            changed_abstraction(alloc, t, v, &entry.binder, b, inside)
         }
     }
 }
 
-// What `substituted` makes of the parts of the application `f x`.
-#[cycle(substituted)]
-fn substituted_parts(
-    alloc: Global,
-    f: &Term,
-    x: &Term,
-    pairs: &[(Term, Variable)],
-) -> Result<(Option<Term>, Option<Term>), AllocError>
-    requires { Fit pairs.now }
-    ensures function { IfOk result (λ r. IsResult pairs.now f.now (unwrap_or r.0 f.now)) }
-    ensures argument { IfOk result (λ r. IsResult pairs.now x.now (unwrap_or r.1 x.now)) }
-{
-    let argument = substituted(alloc, x, pairs)?;
-    let Some(h) = operator(f, x) else {
-        let function = substituted(alloc, f, pairs)?;
-        return Ok((function, argument));
-    };
-    let inner = substituted(alloc, h, pairs)?;
-    let function = changed_function(alloc, f, h, inner, x, &argument)?;
-    Ok((function, argument))
-}
-
-// A copy of the term of the first pair of the variable.
+// A copy of the term of the first pair of the variable, which `t` is, or of `t`.
 #[inline(never)]
-fn at_variable(pairs: &[(Term, Variable)], v: &Variable) -> Result<Option<Term>, AllocError>
-    ensures { IfOk result (λ r. unwrap_or r (var v.now) ≡ given pairs.now v.now) }
+fn at_variable(pairs: &[(Term, Variable)], t: &Term, v: &Variable) -> Result<Term, AllocError>
+    requires { t.now ≡ var v.now }
+    ensures { IfOk result (λ r. r ≡ given pairs.now v.now) }
 {
     match replacement(pairs, v) {
-        Some(term) => Ok(Some(term.copy()?)),
-        None => Ok(None),
+        Some(term) => term.copy(),
+        None => t.copy(),
     }
 }
 
@@ -198,14 +179,4 @@ fn entering(
     let u = renaming(alloc, &rest, v, b)?;
     let pairs = renaming_first(alloc, &u, v, rest)?;
     Ok(Entry { binder: u, pairs })
-}
-
-// The changed term, or a copy of the old one.
-fn or_same(changed: Option<Term>, t: &Term) -> Result<Term, AllocError>
-    ensures { IfOk result (λ r. r ≡ unwrap_or changed t.now) }
-{
-    match changed {
-        Some(changed) => Ok(changed),
-        None => t.copy(),
-    }
 }

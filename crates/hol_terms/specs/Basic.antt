@@ -2,32 +2,23 @@
 -- form of the type tells.
 -- Source: HOL Light's fusion.ml (bool, fun, =), nums.ml (ind, ONE_ONE, ONTO), class.ml (@) and bool.ml (the others).
 use Rattle.std.specs.Prelude.{ℕ, Bool, true, false, cond, ◌&&◌, List, [], ◌∷◌, bytes_eq, codes, Option, Some, None, is_some}
-use Rattle.hol_types.specs.Tree.{TypeTree, TypeList, TyVar, TyApp, no_types, more_types}
+use Rattle.hol_types.specs.Tree.{TypeTree}
 use Rattle.hol_types.specs.Equal.{type_eq}
 use Rattle.hol_types.specs.Fun.{fun_parts}
-use Rattle.hol_types.specs.Basic.{is_basic}
+use Rattle.hol_types.specs.Basic.{is_basic, is_bool}
 use Rattle.hol_terms.specs.Named.{Named, var, constant, comb, abs}
 
 -- ---- the forms of types. Where a domain and a range are passed, they are those of a type of functions
 
-abbrev pub is_empty : TypeList → Bool
-is_empty no_types = true
-is_empty (more_types t ts) = false
-
--- bool
-abbrev pub is_truth : TypeTree → Bool
-is_truth (TyVar a) = false
-is_truth (TyApp c ts) = bytes_eq c (codes "bool") && is_empty ts
-
 -- a->bool
 abbrev pub is_property : TypeTree → Option (TypeTree × TypeTree) → Bool
 is_property a None = false
-is_property a (Some p) = type_eq p.0 a && is_truth p.1
+is_property a (Some p) = type_eq p.0 a && is_bool p.1
 
 -- a->bool, for some a
 abbrev pub is_predicate : Option (TypeTree × TypeTree) → Bool
 is_predicate None = false
-is_predicate (Some p) = is_truth p.1
+is_predicate (Some p) = is_bool p.1
 
 -- a->a->bool, for some a
 abbrev pub is_equality : Option (TypeTree × TypeTree) → Bool
@@ -42,22 +33,22 @@ is_choice (Some p) = is_property p.1 (fun_parts p.0)
 -- bool->bool
 abbrev pub is_negation : Option (TypeTree × TypeTree) → Bool
 is_negation None = false
-is_negation (Some p) = is_truth p.0 && is_truth p.1
+is_negation (Some p) = is_bool p.0 && is_bool p.1
 
 -- bool->bool->bool
 abbrev pub is_connective : Option (TypeTree × TypeTree) → Bool
 is_connective None = false
-is_connective (Some p) = is_truth p.0 && is_negation (fun_parts p.1)
+is_connective (Some p) = is_bool p.0 && is_negation (fun_parts p.1)
 
 -- (a->bool)->bool, for some a
 abbrev pub is_binder : Option (TypeTree × TypeTree) → Bool
 is_binder None = false
-is_binder (Some p) = is_predicate (fun_parts p.0) && is_truth p.1
+is_binder (Some p) = is_predicate (fun_parts p.0) && is_bool p.1
 
 -- (a->b)->bool, for some a and b
 abbrev pub is_function_property : Option (TypeTree × TypeTree) → Bool
 is_function_property None = false
-is_function_property (Some p) = is_some (fun_parts p.0) && is_truth p.1
+is_function_property (Some p) = is_some (fun_parts p.0) && is_bool p.1
 
 -- ---- the constants
 
@@ -66,8 +57,8 @@ abbrev pub basic_constants : List (List ℕ × (TypeTree → Bool))
 basic_constants =
     (codes "=", λ s. is_equality (fun_parts s))
     ∷ (codes "@", λ s. is_choice (fun_parts s))
-    ∷ (codes "T", λ s. is_truth s)
-    ∷ (codes "F", λ s. is_truth s)
+    ∷ (codes "T", λ s. is_bool s)
+    ∷ (codes "F", λ s. is_bool s)
     ∷ (codes "/\\", λ s. is_connective (fun_parts s))
     ∷ (codes "\\/", λ s. is_connective (fun_parts s))
     ∷ (codes "==>", λ s. is_connective (fun_parts s))

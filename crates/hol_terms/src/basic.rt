@@ -1,19 +1,9 @@
 //! Which constants stand over every basis, with their types: each type is told by its form, without memory.
 ghost use Rattle.std.specs.Prelude.{◌≡◌};
 ghost use Rattle.hol_types.specs.Fun.{fun_parts};
-ghost use Rattle.hol_terms.specs.Basic.{is_truth, is_property, is_predicate, is_equality, is_choice, is_negation, is_connective, is_binder, is_function_property, is_basic_constant};
+ghost use Rattle.hol_terms.specs.Basic.{is_property, is_predicate, is_equality, is_choice, is_negation, is_connective, is_binder, is_function_property, is_basic_constant};
 
-use hol_types::{Name, Ty, TyNode};
-
-// `bool`.
-fn is_truth(ty: &Ty) -> bool
-    ensures { result ≡ is_truth ty.now }
-{
-    match ty.node() {
-        TyNode::Var(_) => false,
-        TyNode::App(name, args) => name.as_str() == "bool" && args.is_empty(),
-    }
-}
+use hol_types::{Name, Ty};
 
 // `a->bool`, for the type `a`.
 fn is_property(ty: &Ty, domain: &Ty) -> bool
@@ -21,7 +11,7 @@ fn is_property(ty: &Ty, domain: &Ty) -> bool
 {
     match ty.dest_fun() {
         None => false,
-        Some((own, truth)) => own.same(domain) && is_truth(truth),
+        Some((own, truth)) => own.same(domain) && truth.is_bool(),
     }
 }
 
@@ -31,7 +21,7 @@ fn is_predicate(ty: &Ty) -> bool
 {
     match ty.dest_fun() {
         None => false,
-        Some((_, truth)) => is_truth(truth),
+        Some((_, truth)) => truth.is_bool(),
     }
 }
 
@@ -61,7 +51,7 @@ fn is_negation(ty: &Ty) -> bool
 {
     match ty.dest_fun() {
         None => false,
-        Some((domain, range)) => is_truth(domain) && is_truth(range),
+        Some((domain, range)) => domain.is_bool() && range.is_bool(),
     }
 }
 
@@ -71,7 +61,7 @@ fn is_connective(ty: &Ty) -> bool
 {
     match ty.dest_fun() {
         None => false,
-        Some((domain, range)) => is_truth(domain) && is_negation(range),
+        Some((domain, range)) => domain.is_bool() && is_negation(range),
     }
 }
 
@@ -81,7 +71,7 @@ fn is_binder(ty: &Ty) -> bool
 {
     match ty.dest_fun() {
         None => false,
-        Some((property, truth)) => is_predicate(property) && is_truth(truth),
+        Some((property, truth)) => is_predicate(property) && truth.is_bool(),
     }
 }
 
@@ -91,7 +81,7 @@ fn is_function_property(ty: &Ty) -> bool
 {
     match ty.dest_fun() {
         None => false,
-        Some((function, truth)) => function.dest_fun().is_some() && is_truth(truth),
+        Some((function, truth)) => function.dest_fun().is_some() && truth.is_bool(),
     }
 }
 
@@ -104,7 +94,7 @@ pub(crate) fn is_basic_constant(constant: &Name, ty: &Ty) -> bool
     match constant.as_str() {
         "=" => is_equality(ty),
         "@" => is_choice(ty),
-        "T" | "F" => is_truth(ty),
+        "T" | "F" => ty.is_bool(),
         "/\\" | "\\/" | "==>" => is_connective(ty),
         "~" => is_negation(ty),
         "!" | "?" | "?!" => is_binder(ty),

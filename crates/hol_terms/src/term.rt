@@ -151,8 +151,8 @@ impl Term {
         Term::application_to(alloc, f, x, range)
     }
 
-    // The application of `f` to `x`, where its type is `range`.
-    fn application_to(alloc: Global, f: &Term, x: &Term, range: &Ty) -> Result<Term, AllocError>
+    /// The application of `f` to `x`, where its type is `range`: so no types are compared.
+    pub fn application_to(alloc: Global, f: &Term, x: &Term, range: &Ty) -> Result<Term, AllocError>
         requires { named_type (comb f.now x.now) ≡ Some range.now }
         ensures { IfOk result (λ t. t ≡ comb f.now x.now) }
     {

@@ -15,7 +15,7 @@ use Rattle.hol_kernel.proofs.Declared.{own_name}
 use Rattle.hol_kernel.proofs.Subsets.{within_of_subset}
 use Rattle.hol_kernel.proofs.Weaken.{sound_more}
 use Rattle.hol_theory.specs.Key.{KeyValue}
-use Rattle.hol_theory.specs.Entry.{EntryValue, AType, AConstant, ATheorem, Entries, IsEntry, EachIsEntry, entry_basis, stated_axiom, own_item}
+use Rattle.hol_theory.specs.Entry.{EntryValue, AType, AConstant, ATheorem, ATac, Entries, IsEntry, EachIsEntry, entry_basis, stated_axiom, own_item}
 use Rattle.hol_theory.specs.Theory.{with_item, items_after, items_of, items_in, RestsOn, entry_key, IsNamedIn}
 
 -- ---- an item more, where it does not stand yet
@@ -126,6 +126,7 @@ own_in_basis key (AConstant ty item basis) x h e =
     let f : Some item ≡ Some x = e in
     let is : item ≡ x = cc in
     (h.legal, subst (Holds basis) is h.own)
+own_in_basis key (ATac t bases basis) x h e = let f : None ≡ Some x = e in absurd (cc)
 own_in_basis key (ATheorem th) x h e = (h.theorem.legal, by (set.contains th.basis own) refl e)
   where
     own : Item

@@ -10,17 +10,25 @@ same_kind : (j k : Kind) → (kind_rank j == kind_rank k) ≡ true → j ≡ k
 same_kind key_kind.Type key_kind.Type e = refl
 same_kind key_kind.Type key_kind.Constant e = absurd (cc)
 same_kind key_kind.Type key_kind.Theorem e = absurd (cc)
+same_kind key_kind.Type key_kind.Tac e = absurd (cc)
 same_kind key_kind.Constant key_kind.Type e = absurd (cc)
 same_kind key_kind.Constant key_kind.Constant e = refl
 same_kind key_kind.Constant key_kind.Theorem e = absurd (cc)
+same_kind key_kind.Constant key_kind.Tac e = absurd (cc)
 same_kind key_kind.Theorem key_kind.Type e = absurd (cc)
 same_kind key_kind.Theorem key_kind.Constant e = absurd (cc)
 same_kind key_kind.Theorem key_kind.Theorem e = refl
+same_kind key_kind.Theorem key_kind.Tac e = absurd (cc)
+same_kind key_kind.Tac key_kind.Type e = absurd (cc)
+same_kind key_kind.Tac key_kind.Constant e = absurd (cc)
+same_kind key_kind.Tac key_kind.Theorem e = absurd (cc)
+same_kind key_kind.Tac key_kind.Tac e = refl
 
 own_rank : (k : Kind) → (kind_rank k == kind_rank k) ≡ true
 own_rank key_kind.Type = refl
 own_rank key_kind.Constant = refl
 own_rank key_kind.Theorem = refl
+own_rank key_kind.Tac = refl
 
 pub key_is : (a b : KeyValue) → key_eq a b ≡ true → a ≡ b
 key_is a b e =

@@ -9,3 +9,4 @@ pub mod Comparing
 pub mod Declaring
 pub mod Defining
 pub mod Standing
+pub mod Nodes

@@ -13,7 +13,7 @@ use Rattle.hol_kernel.proofs.Members.{Among}
 use Rattle.hol_kernel.proofs.Subsets.{within_of_subset, subset_of_within}
 use Rattle.hol_theory.specs.declared.key.Kind.TheVariants as key_kind
 use Rattle.hol_theory.specs.Key.{KeyValue, theorem_key}
-use Rattle.hol_theory.specs.Entry.{EntryValue, AType, AConstant, ATheorem, Entries, IsEntry, entry_at, entry_basis, stated_axiom, own_item}
+use Rattle.hol_theory.specs.Entry.{EntryValue, AType, AConstant, ATheorem, ATac, Entries, IsEntry, entry_at, entry_basis, stated_axiom, own_item}
 use Rattle.hol_theory.specs.Theory.{with_item, items_after, items_in, RestsOn, IsTheory, StatesAxiom}
 use Rattle.hol_theory.proofs.Defining.{each_at}
 use Rattle.hol_theory.proofs.Entries.{found}
@@ -43,6 +43,7 @@ axiom_stated : (es : Entries) (name : List ℕ) (p : Nameless) (v : EntryValue) 
     own_item (theorem_key name) v ≡ Some (declared_axiom name p) → StatesAxiom es name p
 axiom_stated es name p (AType arity item basis) e is own = let under : key_kind.Theorem ≡ key_kind.Type = is.under in absurd (cc)
 axiom_stated es name p (AConstant ty item basis) e is own = let under : key_kind.Theorem ≡ key_kind.Constant = is.under in absurd (cc)
+axiom_stated es name p (ATac t bases basis) e is own = let under : key_kind.Theorem ≡ key_kind.Tac = is.under in absurd (cc)
 axiom_stated es name p (ATheorem th) e is own = by (set.contains th.basis (stated_axiom (theorem_key name) th)) own
   where
     by : (b : Bool) → cond b (Some (declared_axiom name th.sequent.concl)) None ≡ Some (declared_axiom name p) → StatesAxiom es name p

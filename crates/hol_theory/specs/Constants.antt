@@ -8,6 +8,7 @@ abbrev pub constant_name : Kind → List ℕ → List (List ℕ)
 constant_name key_kind.Type name = []
 constant_name key_kind.Constant name = name ∷ []
 constant_name key_kind.Theorem name = []
+constant_name key_kind.Tac name = []
 
 -- in standing order
 abbrev pub constant_names : Entries → List (List ℕ)

@@ -1,6 +1,6 @@
 -- Entries: what a theory has made, each under its key, in standing order.
 -- Source: this project; items are those of fusion.ml.
-use Rattle.std.specs.Prelude.{◌≡◌, ℕ, List, [], ◌∷◌, cond, Option, Some, None}
+use Rattle.std.specs.Prelude.{◌≡◌, ℕ, true, List, [], ◌∷◌, cond, Option, Some, None}
 use Rattle.std.specs.FinSet as set
 use Rattle.std.specs.List.{Contains, find}
 use Rattle.std.specs.Map.{lookup}
@@ -11,6 +11,8 @@ use Rattle.hol_kernel.specs.Legal.{IsLegalSet}
 use Rattle.hol_kernel.specs.Sequent.{no_hyps}
 use Rattle.hol_kernel.specs.Signature.{ItemKey, has_key, item_types, item_constants}
 use Rattle.hol_kernel.specs.Theorem.{Theorem, IsTheorem}
+use Rattle.hol_combine.specs.ExprValue.{ExprValue}
+use Rattle.hol_combine.specs.Suits.{suits_expr}
 use Rattle.hol_theory.specs.declared.key.Kind.TheVariants as key_kind
 use Rattle.hol_theory.specs.Key.{KeyValue, key_eq}
 
@@ -22,6 +24,8 @@ pub data EntryValue : Type 0 where
   AConstant : TypeTree → Item → Items → EntryValue
   -- a theorem, with its basis
   ATheorem : Theorem → EntryValue
+  -- an expression of functions on goals that has a name; what each theorem that is written in it rests on by itself, in text order; and its basis
+  ATac : ExprValue → List Items → Items → EntryValue
 
 abbrev pub Entries : Type 0
 Entries = List (KeyValue × EntryValue)
@@ -35,6 +39,7 @@ abbrev pub entry_basis : EntryValue → Items
 entry_basis (AType arity item basis) = basis
 entry_basis (AConstant ty item basis) = basis
 entry_basis (ATheorem th) = th.basis
+entry_basis (ATac e bases basis) = basis
 
 -- the item of a basis that has the name
 abbrev pub item_at : ItemKey → Items → Option Item
@@ -44,11 +49,13 @@ item_at k basis = find (λ x. has_key x k) (in_order basis)
 abbrev pub stated_axiom : KeyValue → Theorem → Item
 stated_axiom key th = declared_axiom key.name th.sequent.concl
 
--- the own item of an entry: of a type or a constant the one that makes it, and of a theorem the axiom of its name that states the same, where it rests on that
+-- the own item of an entry: of a type or a constant the one that makes it, and of a theorem the axiom of its name that states the same, where it rests on that;
+-- an expression has none
 abbrev pub own_item : KeyValue → EntryValue → Option Item
 own_item key (AType arity item basis) = Some item
 own_item key (AConstant ty item basis) = Some item
 own_item key (ATheorem th) = cond (set.contains th.basis (stated_axiom key th)) (Some (stated_axiom key th)) None
+own_item key (ATac e bases basis) = None
 
 -- ---- what an entry is
 
@@ -74,10 +81,17 @@ pub record IsTheoremEntry (key : KeyValue) (th : Theorem) : Type 0 where
   pub under : key.kind ≡ key_kind.Theorem
   pub without_hypotheses : th.sequent.hyps ≡ no_hyps
 
+-- An expression of functions on goals as an entry: it stands under the key of one; and its basis, which is legal, suits all that is written in it.
+pub record IsTacEntry (key : KeyValue) (e : ExprValue) (basis : Items) : Type 0 where
+  pub under : key.kind ≡ key_kind.Tac
+  pub suits : suits_expr e basis ≡ true
+  pub legal : IsLegalSet basis
+
 abbrev pub IsEntry : KeyValue → EntryValue → Type 0
 IsEntry key (AType arity item basis) = IsTypeEntry key arity item basis
 IsEntry key (AConstant ty item basis) = IsConstantEntry key ty item basis
 IsEntry key (ATheorem th) = IsTheoremEntry key th
+IsEntry key (ATac e bases basis) = IsTacEntry key e basis
 
 abbrev pub EachIsEntry : Entries → Type 0
 EachIsEntry [] = Unit {0}

@@ -281,7 +281,7 @@ fn add_name(alloc: Global, names: &mut Names, key: &Key) -> Result<(), AllocErro
 {
     match key.kind() {
         Kind::Constant => names.add(alloc, key.shared_name()),
-        Kind::Type | Kind::Theorem => Ok(()),
+        Kind::Type | Kind::Theorem | Kind::Tac => Ok(()),
     }
 }
 

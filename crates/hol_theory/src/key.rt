@@ -8,7 +8,7 @@ use std::alloc::{AllocError, Global};
 use std::hash::{Hash, Hasher};
 use std::marker::Model;
 
-/// What a name is a name of: types, constants and theorems have their names apart.
+/// What a name is a name of: types, constants, theorems and functions on goals have their names apart.
 #[derive(Clone, Copy, Debug, PartialEq, Eq)]
 pub enum Kind {
     /// A type constructor.
@@ -17,6 +17,8 @@ pub enum Kind {
     Constant,
     /// A theorem.
     Theorem,
+    /// A function on goals: an expression that has a name.
+    Tac,
 }
 
 impl Kind {
@@ -27,6 +29,7 @@ impl Kind {
             Kind::Type => 0,
             Kind::Constant => 1,
             Kind::Theorem => 2,
+            Kind::Tac => 3,
         }
     }
 
@@ -37,6 +40,7 @@ impl Kind {
             Kind::Type => "type:",
             Kind::Constant => "const:",
             Kind::Theorem => "thm:",
+            Kind::Tac => "tac:",
         }
     }
 }
@@ -89,7 +93,7 @@ impl Key {
         &self.name
     }
 
-    /// The key as clients see it: `type:N`, `const:N` or `thm:N`.
+    /// The key as clients see it: `type:N`, `const:N`, `thm:N` or `tac:N`.
     pub fn text(&self, alloc: Global) -> Result<String, AllocError>
         ensures { IfOk result (λ text. string_bytes text ≡ key_text self.now) }
     {

@@ -1,4 +1,4 @@
-//! The entries of a theory: an ordered map from keys to types, constants and theorems, whose items are a legal list.
+//! The entries of a theory: an ordered map from keys to types, constants, theorems and functions on goals, whose items are a legal list.
 //!
 //! Calls that answer a `Result` answer its memory error where memory is short, and nowhere else.
 #![tactic(auto)]
@@ -11,6 +11,7 @@ mod layer;
 mod making;
 mod older;
 mod same;
+mod same_expr;
 mod value;
 
 pub use env::Env;
@@ -21,7 +22,7 @@ pub use laws::{
     theorems_follow,
 };
 pub use making::{
-    DefinedNames, Entries, item_at, item_entries, new_axiom, new_constant, new_definition,
+    DefinedNames, Entries, item_at, item_entries, new_axiom, new_constant, new_definition, new_tac,
     new_type, new_type_definition,
 };
 pub use same::same_basis;

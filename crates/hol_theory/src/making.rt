@@ -10,12 +10,14 @@ ghost use Rattle.hol_kernel.specs.Signature.{type_key, item_types, item_constant
 ghost use Rattle.hol_kernel.specs.Theorem.{Theorem};
 ghost use Rattle.hol_kernel.specs.declared.type_definition.TypeDefinition.{TypeDefinition};
 ghost use Rattle.hol_kernel.specs.declared.error.Rule.TheVariants as rule;
-ghost use Rattle.hol_theory.specs.Entry.{ATheorem, EachIsEntry, item_at};
-ghost use Rattle.hol_theory.specs.Key.{theorem_key};
+ghost use Rattle.hol_combine.specs.Suits.{suits_expr};
+ghost use Rattle.hol_theory.specs.Entry.{ATheorem, ATac, IsEntry, EachIsEntry, item_at};
+ghost use Rattle.hol_theory.specs.Key.{theorem_key, tac_key};
 ghost use Rattle.hol_theory.specs.Making.{type_entry, constant_entry, item_entries, IsNewType, IsNewConstant, IsNewAxiom, IsNewDefinition, IsNewTypeDefinition};
 
 use crate::key::{Key, Kind};
 use crate::value::Value;
+use hol_combine::Expr;
 use hol_kernel::{Basis, Item, ItemKind, KernelError, Thm, TypeDefinition};
 use hol_terms::Term;
 use hol_types::{Name, Ty};
@@ -156,6 +158,24 @@ pub fn new_axiom(
     let theorem = Thm::axiom_of(alloc, &larger, name)?;
     let key = Key::new(alloc, Kind::Theorem, name.as_str())?;
     let value = Value::theorem(alloc, theorem)?;
+    Ok((key, value))
+}
+
+/// The entry of an expression that has a name, by what each theorem that is written in it rests on by itself, in text order, and what all of it rests on.
+pub fn new_tac(
+    alloc: Global,
+    name: &str,
+    expr: Expr,
+    bases: Vec<Basis>,
+    basis: Basis,
+) -> Result<(Key, Value), AllocError>
+    requires { suits_expr expr basis ≡ true }
+    ensures entry { IfOk result (λ made. made ≡ (tac_key name.now, ATac expr bases.items basis)) }
+    ensures is { IfOk result (λ made. IsEntry made.0 made.1) }
+{
+    let _items = basis.items();
+    let key = Key::new(alloc, Kind::Tac, name)?;
+    let value = Value::tac(alloc, expr, bases, basis)?;
     Ok((key, value))
 }
 

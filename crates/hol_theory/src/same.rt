@@ -1,13 +1,14 @@
-//! Whether what stands is the same: terms by their nameless terms, base names included, theorems by their bases too.
+//! Whether what stands is the same: terms by their nameless terms, base names included, theorems by their bases too; expressions are apart.
 ghost use Rattle.std.specs.Prelude.{◌≡◌, ◌↔◌, IsTrue, map};
 ghost use Rattle.hol_kernel.specs.Sequent.{hyp_of};
 
+use crate::same_expr::same_expr;
 use crate::value::{Value, ValueNode};
 use hol_kernel::{Basis, Item, Thm};
 use hol_terms::Term;
 
 impl Value {
-    /// Whether both are the same: arities, types, items with the base names of their terms, theorems with their bases.
+    /// Whether both are the same: arities, types, items with the base names of their terms, theorems with their bases, expressions with what their theorems rest on.
     pub fn same(&self, other: &Value) -> bool
         ensures { IsTrue result ↔ (self.now ≡ other.now) }
     {
@@ -36,9 +37,34 @@ impl Value {
                 },
             ) => ty.same(other_ty) && same_item(item, basis, other_item, other_basis),
             (ValueNode::Theorem(th), ValueNode::Theorem(other_th)) => same_theorem(th, other_th),
-            (ValueNode::Type { .. }, ValueNode::Constant { .. } | ValueNode::Theorem(_))
-            | (ValueNode::Constant { .. }, ValueNode::Type { .. } | ValueNode::Theorem(_))
-            | (ValueNode::Theorem(_), ValueNode::Type { .. } | ValueNode::Constant { .. }) => false,
+            (
+                ValueNode::Tac { expr, bases, basis },
+                ValueNode::Tac {
+                    expr: other_expr,
+                    bases: other_bases,
+                    basis: other_basis,
+                },
+            ) => {
+                same_expr(expr, other_expr)
+                    && same_bases(bases, other_bases)
+                    && same_basis(basis, other_basis)
+            }
+            (
+                ValueNode::Type { .. },
+                ValueNode::Constant { .. } | ValueNode::Theorem(_) | ValueNode::Tac { .. },
+            )
+            | (
+                ValueNode::Constant { .. },
+                ValueNode::Type { .. } | ValueNode::Theorem(_) | ValueNode::Tac { .. },
+            )
+            | (
+                ValueNode::Theorem(_),
+                ValueNode::Type { .. } | ValueNode::Constant { .. } | ValueNode::Tac { .. },
+            )
+            | (
+                ValueNode::Tac { .. },
+                ValueNode::Type { .. } | ValueNode::Constant { .. } | ValueNode::Theorem(_),
+            ) => false,
         }
     }
 }
@@ -58,6 +84,21 @@ pub fn same_basis(left: &Basis, right: &Basis) -> bool
     same_items(left.items(), right.items())
 }
 
+// Whether the lists have the same bases in the same order.
+fn same_bases(left: &[Basis], right: &[Basis]) -> bool
+    ensures { IsTrue result ↔ (left.now ≡ right.now) }
+{
+    if left.len() != right.len() {
+        return false;
+    }
+    for (i, basis) in left.iter().enumerate() {
+        if !same_basis(basis, &right[i]) {
+            return false;
+        }
+    }
+    true
+}
+
 // Whether the lists have the same items in the same order.
 fn same_items(left: &[Item], right: &[Item]) -> bool
     ensures { IsTrue result ↔ (left.now ≡ right.now) }
@@ -73,7 +114,8 @@ fn same_items(left: &[Item], right: &[Item]) -> bool
     true
 }
 
-fn same_theorem(left: &Thm, right: &Thm) -> bool
+/// Whether the theorems are the same, with their bases.
+pub(crate) fn same_theorem(left: &Thm, right: &Thm) -> bool
     ensures { IsTrue result ↔ (left.now ≡ right.now) }
 {
     left.concl().same(right.concl())

@@ -1,8 +1,9 @@
 //! What stands under keys.
 ghost use Rattle.std.specs.Prelude.{◌≡◌, IsTrue, IfOk};
-ghost use Rattle.hol_theory.specs.Entry.{AType, AConstant, ATheorem};
+ghost use Rattle.hol_theory.specs.Entry.{AType, AConstant, ATheorem, ATac};
 ghost use Rattle.hol_theory.specs.EntryView.{entry_of_node};
 
+use hol_combine::Expr;
 use hol_kernel::{Basis, Item, Thm};
 use hol_mark::Mark;
 use hol_types::Ty;
@@ -10,7 +11,7 @@ use std::alloc::{AllocError, Global};
 use std::marker::Model;
 use std::rc::Rc;
 
-/// What stands under a key: a type constructor, a constant or a theorem. Its copies share it.
+/// What stands under a key: a type constructor, a constant, a theorem or a function on goals. Its copies share it.
 #[derive(Drop)]
 pub struct Value {
     shared: Rc<ValueShared>,
@@ -46,6 +47,15 @@ pub enum ValueNode {
     },
     /// A theorem.
     Theorem(Thm),
+    /// A function on goals: an expression that has a name.
+    Tac {
+        /// The expression.
+        expr: Expr,
+        /// What each theorem that is written in it rests on by itself, in text order.
+        bases: Vec<Basis>,
+        /// What all that is written in it rests on.
+        basis: Basis,
+    },
 }
 
 impl Model for Value {
@@ -98,6 +108,18 @@ impl Value {
         ensures { IfOk result (λ v. v ≡ ATheorem theorem) }
     {
         Value::made(alloc, ValueNode::Theorem(theorem))
+    }
+
+    /// An expression that has a name, with what each theorem that is written in it rests on by itself, in text order, and what all of it rests on.
+    pub fn tac(
+        alloc: Global,
+        expr: Expr,
+        bases: Vec<Basis>,
+        basis: Basis,
+    ) -> Result<Value, AllocError>
+        ensures { IfOk result (λ v. v ≡ ATac expr bases.items basis) }
+    {
+        Value::made(alloc, ValueNode::Tac { expr, bases, basis })
     }
 
     /// What it is.

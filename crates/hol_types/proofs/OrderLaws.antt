@@ -29,6 +29,9 @@ name_equal a b e = (bytes_eq-Decides a b).0 (sym (is_eq-slice_cmp a b) ∙ ap is
 pub name_same : (a : List ℕ) → name_cmp a a ≡ Equal
 name_same a = (Equal-is (name_cmp a a)).0 (is_eq-slice_cmp a a ∙ (bytes_eq-Decides a a).1 refl)
 
+pub name_tie : (a b : List ℕ) → a ≡ b → Equal ≡ name_cmp a b
+name_tie a b e = sym (name_same a) ∙ ap (name_cmp a) e
+
 mutual
   pub type_equal : (s t : TypeTree) → type_cmp s t ≡ Equal → s ≡ t
   type_equal (TyVar a) (TyVar b) e = ap TyVar (name_equal a b e)

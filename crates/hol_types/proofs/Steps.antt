@@ -1,16 +1,18 @@
 -- One step of a loop over arguments.
-use Rattle.std.proofs.Common.{◌≡◌, Bool, true, ◌&&◌, ℕ, ◌+◌, ◌<◌, ◌≤◌, zero, suc, List, [], ◌∷◌, length, get_or, drop, take, map, refl, ap, ◌∙◌, arith, add-one, drop-cons}
+use Rattle.std.proofs.Common.{◌≡◌, Bool, true, false, cond, ◌&&◌, ℕ, ◌+◌, ◌<◌, ◌≤◌, ◌==◌, zero, suc, List, [], ◌∷◌, length, get_or, drop, take, map, refl, sym, ap, ◌∙◌, arith, add-one, drop-cons}
+use Rattle.std.proofs.Math.Nat.{suc-ne-zero}
+use Rattle.std.proofs.lemmas.Bool.{ne_eqb}
 use Rattle.std.proofs.lemmas.List.{take_all, drop_all}
 use Rattle.std.proofs.Math.Seq.{drop-nil}
-use Rattle.hol_types.specs.Tree.{TypeTree, TyVar, TyApp, no_types, more_types, type_list, type_size, types_size}
-use Rattle.std.specs.Prelude.{Result, IfOk, Some, None}
+use Rattle.hol_types.specs.Tree.{TypeTree, TypeList, TyVar, TyApp, no_types, more_types, type_list, type_size, types_size}
+use Rattle.std.specs.Prelude.{Result, IfOk, Option, Some, None, is_some, bytes_eq, codes}
 use Rattle.hol_types.specs.Match.{match_types}
-use Rattle.hol_types.specs.Fun.{both_of}
+use Rattle.hol_types.specs.Fun.{both_of, fun_parts}
 use Rattle.std.proofs.lemmas.Result.{IfOk-weaker}
 use Rattle.hol_types.specs.Order.{types_cmp}
 use Rattle.std.specs.declared.cmp.Ordering.TheVariants.{Less}
 use Rattle.hol_types.specs.Subst.{type_subst, types_subst}
-use Rattle.hol_types.specs.Basic.{is_basic_constructor, arguments, is_basic, are_basic}
+use Rattle.hol_types.specs.Basic.{is_basic_constructor, arguments, is_basic, are_basic, is_empty, is_bool}
 
 -- the arguments from i on are the i-th and those after it
 pub next_of : {A : Type 0} (xs : List A) (i : ℕ) (x : A) → i < length xs → x ≡ get_or xs i x → drop i xs ≡ x ∷ drop (i + 1) xs
@@ -41,16 +43,66 @@ pub subst_all : (pairs : List (TypeTree × List ℕ)) (ts us : List TypeTree) (i
 subst_all pairs ts us i e h = ap type_list (e ∙ ap (map (type_subst pairs)) (take_all i ts h)) ∙ subst_list pairs ts
 
 -- the arguments are not two
-pub below_two : (ts : List TypeTree) → length ts < 2 → both_of (type_list ts) ≡ None
+below_two : (ts : List TypeTree) → length ts < 2 → both_of (type_list ts) ≡ None
 below_two [] h = refl
 below_two (s ∷ []) h = refl
 below_two (s ∷ t ∷ ts) h = absurd (omega arith)
 
-pub above_two : (ts : List TypeTree) → 3 ≤ length ts → both_of (type_list ts) ≡ None
+above_two : (ts : List TypeTree) → 3 ≤ length ts → both_of (type_list ts) ≡ None
 above_two [] h = absurd (omega arith)
 above_two (s ∷ []) h = absurd (omega arith)
 above_two (s ∷ t ∷ []) h = absurd (omega arith)
 above_two (s ∷ t ∷ u ∷ ts) h = refl
+
+-- the type of this constructor and arguments is one of functions where it has the name `fun` and two arguments
+two_arguments : (ts : List TypeTree) → is_some (both_of (type_list ts)) ≡ (length ts == 2)
+two_arguments [] = sym (ne_eqb 0 2 (λ e. absurd (omega (arith, e))))
+two_arguments (s ∷ []) = sym (ne_eqb 1 2 (λ e. absurd (omega (arith, e))))
+two_arguments (s ∷ t ∷ []) = refl
+two_arguments (s ∷ t ∷ u ∷ ts) = sym (ne_eqb (length (s ∷ t ∷ u ∷ ts)) 2 (λ e. absurd (omega (arith, e))))
+
+pub function_app : (c : List ℕ) (ts : List TypeTree) → is_some (fun_parts (TyApp c (type_list ts))) ≡ (bytes_eq c (codes "fun") && (length ts == 2))
+function_app c ts = by (bytes_eq c (codes "fun"))
+  where
+    by : (b : Bool) → is_some (cond b (both_of (type_list ts)) None) ≡ (b && (length ts == 2))
+    by true = two_arguments ts
+    by false = refl
+
+-- such a type has the parts that its arguments are
+pub function_parts : (c : List ℕ) (ts : TypeList) (p : TypeTree × TypeTree) → is_some (fun_parts (TyApp c ts)) ≡ true → both_of ts ≡ Some p → fun_parts (TyApp c ts) ≡ Some p
+function_parts c ts p e f = by (bytes_eq c (codes "fun")) e
+  where
+    by : (b : Bool) → is_some (cond b (both_of ts) None) ≡ true → cond b (both_of ts) None ≡ Some p
+    by true g = f
+    by false g = absurd (cc)
+
+none_of : (o : Option (TypeTree × TypeTree)) → is_some o ≡ false → o ≡ None
+none_of None e = refl
+none_of (Some p) e = absurd (cc)
+
+pub no_function : (t : TypeTree) → is_some (fun_parts t) ≡ false → fun_parts t ≡ None
+no_function t e = none_of (fun_parts t) e
+
+no_both : (c : List ℕ) (ts : TypeList) → both_of ts ≡ None → fun_parts (TyApp c ts) ≡ None
+no_both c ts e = by (bytes_eq c (codes "fun"))
+  where
+    by : (b : Bool) → cond b (both_of ts) None ≡ None
+    by true = e
+    by false = refl
+
+pub below_two_parts : (c : List ℕ) (ts : List TypeTree) → length ts < 2 → fun_parts (TyApp c (type_list ts)) ≡ None
+below_two_parts c ts h = no_both c (type_list ts) (below_two ts h)
+
+pub above_two_parts : (c : List ℕ) (ts : List TypeTree) → 3 ≤ length ts → fun_parts (TyApp c (type_list ts)) ≡ None
+above_two_parts c ts h = no_both c (type_list ts) (above_two ts h)
+
+-- the type of this constructor and arguments is `bool` where it has this name and no arguments
+no_arguments : (ts : List TypeTree) → is_empty (type_list ts) ≡ (length ts == 0)
+no_arguments [] = refl
+no_arguments (t ∷ ts) = sym (ne_eqb (suc (length ts)) 0 (suc-ne-zero (length ts)))
+
+pub truth_app : (c : List ℕ) (ts : List TypeTree) → is_bool (TyApp c (type_list ts)) ≡ (bytes_eq c (codes "bool") && (length ts == 0))
+truth_app c ts = ap (λ b. bytes_eq c (codes "bool") && b) (no_arguments ts)
 
 -- the lists end together, or the second goes on
 pub match_ends_some : (found : List (TypeTree × List ℕ)) (ts us : List TypeTree) (i : ℕ) → length ts ≤ i → length us ≤ i → match_types (type_list (drop i ts)) found (type_list (drop i us)) ≡ Some found
@@ -63,6 +115,11 @@ pub match_more_none : (found : List (TypeTree × List ℕ)) (ts us : List TypeTr
 match_more_none found ts us i h k = rw (drop_all i us k, drop-cons ts i (TyVar [])) refl
 
 pub ruleset match_ends = (match_ends_some, match_ends_none, match_more_none)
+
+-- whether a match was found
+pub match_test : (o : Option (List (TypeTree × List ℕ))) (found : List (TypeTree × List ℕ)) (b : Bool) → o ≡ cond b (Some found) None → b ≡ is_some o
+match_test o found true e = sym (ap is_some e)
+match_test o found false e = sym (ap is_some e)
 
 -- a constructor over a list of arguments
 arguments_of : (ts : List TypeTree) → arguments (type_list ts) ≡ length ts

@@ -1,6 +1,6 @@
--- Types of whose constructors each stands over every basis, with as many arguments as its arity says.
+-- Types of whose constructors each stands over every basis, with as many arguments as its arity says; and the type of truth values.
 -- Source: HOL Light's fusion.ml (bool, fun) and nums.ml (ind).
-use Rattle.std.specs.Prelude.{ℕ, zero, suc, Bool, true, ◌&&◌, ◌==◌, List, [], ◌∷◌, bytes_eq, codes}
+use Rattle.std.specs.Prelude.{ℕ, zero, suc, Bool, true, false, ◌&&◌, ◌==◌, List, [], ◌∷◌, bytes_eq, codes}
 use Rattle.std.specs.List.{list_any}
 use Rattle.hol_types.specs.Tree.{TypeTree, TypeList, TyVar, TyApp, no_types, more_types}
 
@@ -23,3 +23,12 @@ abbrev mutual
   pub are_basic : TypeList → Bool
   are_basic no_types = true
   are_basic (more_types t ts) = is_basic t && are_basic ts
+
+abbrev pub is_empty : TypeList → Bool
+is_empty no_types = true
+is_empty (more_types t ts) = false
+
+-- bool
+abbrev pub is_bool : TypeTree → Bool
+is_bool (TyVar a) = false
+is_bool (TyApp c ts) = bytes_eq c (codes "bool") && is_empty ts

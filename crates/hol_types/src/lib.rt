@@ -5,6 +5,7 @@
 
 mod constructor;
 mod filter;
+mod known;
 pub mod laws;
 mod lists;
 mod name;
@@ -12,6 +13,7 @@ mod ty;
 
 pub use constructor::is_basic_constructor;
 pub use filter::NameFilter;
+pub use known::KnownName;
 pub use lists::{insert_name, is_among, type_in};
 pub use name::Name;
 pub use ty::{Ty, TyNode};

@@ -1,5 +1,5 @@
 //! Types, which contracts see as finite trees.
-ghost use Rattle.std.specs.Prelude.{◌≡◌, ℕ, Some, None, OnOk, map, if◌then◌else◌, List, ◌++◌, [], ◌∷◌, min, IfOk, IfSome, IsNone, MatchOption, IsTrue, ◌↔◌};
+ghost use Rattle.std.specs.Prelude.{◌≡◌, ℕ, Some, None, OnOk, map, if◌then◌else◌, List, ◌++◌, [], ◌∷◌, min, IfOk, IfSome, IsNone, MatchOption, IsTrue, ◌↔◌, is_some};
 ghost use Rattle.hol_types.specs.Tree.{TypeTree, TyVar, TyApp, type_list, type_size};
 ghost use Rattle.hol_types.specs.Subst.{type_for, type_subst};
 ghost use Rattle.hol_types.specs.Names.{type_names, insert_names, tyvars, IsAscending, is_among};
@@ -9,10 +9,11 @@ ghost use Rattle.hol_types.specs.Equal.{type_eq};
 ghost use Rattle.hol_types.specs.Fun.{fun_type, fun_parts};
 ghost use Rattle.hol_types.specs.View.{tree_of};
 ghost use Rattle.hol_types.specs.Filter.{type_filter, pairs_filter};
-ghost use Rattle.hol_types.specs.Basic.{is_basic};
+ghost use Rattle.hol_types.specs.Basic.{is_basic, is_bool};
 
 use crate::constructor::is_basic_constructor;
 use crate::filter::NameFilter;
+use crate::known::KnownName;
 use crate::lists::{insert_name, type_in};
 use crate::name::Name;
 use hol_mark::Mark;
@@ -29,7 +30,7 @@ pub struct Ty {
 }
 
 // What the copies of a type share: its top node, the mark by which two copies are known to be of one type, its size, a filter of its
-// variables, and whether all its constructors are the prelude's.
+// variables, and whether all its constructors are the prelude's, whether it is a type of functions, and whether it is `bool`.
 #[cycle(ty)]
 #[derive(Drop)]
 struct TyShared {
@@ -38,6 +39,8 @@ struct TyShared {
     size: u32,
     filter: NameFilter,
     basic: bool,
+    function: bool,
+    truth: bool,
 }
 
 /// The top node of a type.
@@ -51,10 +54,11 @@ pub enum TyNode {
 }
 
 impl Model for Ty {
-    ghost use Rattle.std.specs.Prelude.{◌≡◌, min};
+    ghost use Rattle.std.specs.Prelude.{◌≡◌, min, is_some};
     ghost use Rattle.hol_types.specs.Tree.{TypeTree, type_size};
     ghost use Rattle.hol_types.specs.Filter.{type_filter};
-    ghost use Rattle.hol_types.specs.Basic.{is_basic};
+    ghost use Rattle.hol_types.specs.Basic.{is_basic, is_bool};
+    ghost use Rattle.hol_types.specs.Fun.{fun_parts};
     ghost use Rattle.hol_types.specs.Code.{coded_type, type_code};
 
     ghost Value = { TypeTree };
@@ -65,7 +69,7 @@ impl Model for Ty {
 
     ghost view = { λ a. tree_of a.shared.value.node };
 
-    ghost invariant = { λ a. (a.shared.value.mark ≡ type_code (tree_of a.shared.value.node)) × (a.shared.value.size ≡ min (type_size (tree_of a.shared.value.node)) 20001) × (a.shared.value.filter.bits ≡ type_filter (tree_of a.shared.value.node)) × (a.shared.value.basic ≡ is_basic (tree_of a.shared.value.node)) };
+    ghost invariant = { λ a. (a.shared.value.mark ≡ type_code (tree_of a.shared.value.node)) × (a.shared.value.size ≡ min (type_size (tree_of a.shared.value.node)) 20001) × (a.shared.value.filter.bits ≡ type_filter (tree_of a.shared.value.node)) × (a.shared.value.basic ≡ is_basic (tree_of a.shared.value.node)) × (a.shared.value.function ≡ is_some (fun_parts (tree_of a.shared.value.node))) × (a.shared.value.truth ≡ is_bool (tree_of a.shared.value.node)) };
 
     ghost size = { type_size };
 
@@ -101,12 +105,16 @@ impl Ty {
         let size = node.size();
         let filter = node.filter();
         let basic = node.is_basic();
+        let function = node.is_function();
+        let truth = node.is_bool();
         let shared = TyShared {
             node,
             mark,
             size,
             filter,
             basic,
+            function,
+            truth,
         };
         Ok(Ty {
             shared: Rc::new(alloc, shared)?,
@@ -134,7 +142,7 @@ impl Ty {
     pub fn fun(alloc: Global, domain: &Ty, range: &Ty) -> Result<Ty, AllocError>
         ensures { IfOk result (λ ty. ty ≡ fun_type domain.now range.now) }
     {
-        let name = Name::new(alloc, "fun")?;
+        let name = Name::known(KnownName::FunType);
         let mut args = Vec::with_capacity(alloc, 2)?;
         args.push(domain.copy()?)?;
         args.push(range.copy()?)?;
@@ -143,23 +151,28 @@ impl Ty {
 
     /// The domain and the range of a function type, and `None` for a type of another form.
     ///
-    /// Takes no memory.
-    #[tactic(auto, using(crate::proofs::Steps::below_two, crate::proofs::Steps::above_two))]
+    /// Takes no memory. Each type keeps whether it is one.
+    #[tactic(auto, using(crate::proofs::Steps::function_parts, crate::proofs::Steps::no_function, crate::proofs::Steps::below_two_parts, crate::proofs::Steps::above_two_parts))]
     pub fn dest_fun(&self) -> Option<(&Ty, &Ty)>
         ensures { MatchOption result (fun_parts self.now ≡ None) (λ parts. fun_parts self.now ≡ Some (parts.0.now, parts.1.now)) }
     {
-        match self.node() {
-            TyNode::Var(_) => None,
-            TyNode::App(name, args) => {
-                if name.as_str() != "fun" {
-                    return None;
-                }
-                match args.as_slice() {
-                    [domain, range] => Some((domain, range)),
-                    _ => None,
-                }
-            }
+        if !self.shared.function {
+            return None;
         }
+        match &self.shared.node {
+            TyNode::Var(_) => None,
+            TyNode::App(_, args) => match args.as_slice() {
+                [domain, range] => Some((domain, range)),
+                _ => None,
+            },
+        }
+    }
+
+    /// Whether it is the type of truth values, `bool`. Each type keeps it, so this is at once.
+    pub fn is_bool(&self) -> bool
+        ensures { result ≡ is_bool self.now }
+    {
+        self.shared.truth
     }
 
     /// The size: the number of nodes, or 20,001 where there are more.
@@ -251,16 +264,17 @@ impl Ty {
 
     /// Whether the two types are equal.
     ///
-    /// Takes no memory. Types of different sizes, or that keep different bits of their variables, are told apart at once. Else both are
-    /// walked up to the first difference, but for parts where both have one node.
+    /// Takes no memory. Types of one top node are found equal at once, and those of different sizes, or that keep different bits of their
+    /// variables, are told apart at once. Else both are walked up to the first difference, but for parts where both have one node.
     #[tactic(auto, using(crate::proofs::OrderLaws::type_cmp_decides, crate::proofs::OrderLaws::sizes_differ, crate::proofs::Filters::filters_differ))]
     pub fn same(&self, other: &Ty) -> bool
         ensures test { result ≡ type_eq self.now other.now }
         ensures equal { IsTrue result ↔ (self.now ≡ other.now) }
     {
-        self.size() == other.size()
-            && self.filter().same(other.filter())
-            && self.order(other).is_eq()
+        self.same_node(other)
+            || (self.size() == other.size()
+                && self.filter().same(other.filter())
+                && self.order(other).is_eq())
     }
 
     /// The order of types: variables before applications, then by the bytes of the name, then by the arguments from the left.
@@ -355,6 +369,18 @@ impl Ty {
         Ok(Some(pairs))
     }
 
+    /// Whether some pairs give the target: what [`Ty::match_to`] finds, without its pairs.
+    ///
+    /// Takes memory for the variables alone. Parts without variables are compared as `same` does. The others are walked at each place
+    /// where they stand.
+    #[tactic(auto, using(crate::proofs::Steps::match_test))]
+    pub fn matches(&self, alloc: Global, target: &Ty) -> Result<bool, AllocError>
+        ensures { IfOk result (λ matched. matched ≡ is_some (match_type self.now [] target.now)) }
+    {
+        let mut found = Vec::new(alloc);
+        self.match_into(target, &mut found)
+    }
+
     // Whether the pattern matches the target beside the pairs found so far. Those that it needs more are put at their end.
     #[tactic(auto, using(crate::proofs::Steps::match_ends, crate::proofs::Filters::closed_match))]
     fn match_into(&self, target: &Ty, found: &mut Vec<(Ty, Name)>) -> Result<bool, AllocError>
@@ -444,6 +470,30 @@ impl TyNode {
                     }
                 }
                 true
+            }
+        }
+    }
+
+    // Whether the type with this top node is one of functions.
+    #[tactic(auto, using(crate::proofs::Steps::function_app))]
+    fn is_function(&self) -> bool
+        ensures { result ≡ is_some (fun_parts (tree_of self.now)) }
+    {
+        match self {
+            TyNode::Var(_) => false,
+            TyNode::App(constructor, args) => constructor.is(KnownName::FunType) && args.len() == 2,
+        }
+    }
+
+    // Whether the type with this top node is `bool`.
+    #[tactic(auto, using(crate::proofs::Steps::truth_app))]
+    fn is_bool(&self) -> bool
+        ensures { result ≡ is_bool (tree_of self.now) }
+    {
+        match self {
+            TyNode::Var(_) => false,
+            TyNode::App(constructor, args) => {
+                constructor.is(KnownName::BoolType) && args.is_empty()
             }
         }
     }

@@ -24,7 +24,7 @@ pub(crate) fn signature_of(
     Ok(signature)
 }
 
-// Adds what stands under the key: a theorem is no constant and no type.
+// Adds what stands under the key: a theorem is no constant and no type, nor is an expression.
 fn add_value(
     alloc: Global,
     signature: &mut Signature,
@@ -45,7 +45,7 @@ fn add_value(
             let name = Name::new(alloc, value.0.name())?;
             signature.constants.push((name, ty.copy()?))?;
         }
-        ValueNode::Theorem(_) => {}
+        ValueNode::Theorem(_) | ValueNode::Tac { .. } => {}
     }
     Ok(())
 }

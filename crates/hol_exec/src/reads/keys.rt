@@ -67,8 +67,12 @@ fn add_term(alloc: Global, keys: &mut Vec<Key>, term: &PreTerm) -> Result<(), Al
     }
 }
 
-// The keys of what is written in an expression.
-fn add_parts(alloc: Global, keys: &mut Vec<Key>, parts: &[Part]) -> Result<(), AllocError>
+/// Adds the keys of what is written in an expression.
+pub(crate) fn add_parts(
+    alloc: Global,
+    keys: &mut Vec<Key>,
+    parts: &[Part],
+) -> Result<(), AllocError>
     ensures { OnOk result (keys.new.items ≡ keys.old.items ++ keys_in parts.now) }
 {
     for part in parts {
@@ -78,7 +82,7 @@ fn add_parts(alloc: Global, keys: &mut Vec<Key>, parts: &[Part]) -> Result<(), A
             }
             Part::Type(quotation) => add_type(alloc, keys, &quotation.ty)?,
             Part::Theorem(name) => add_key(alloc, keys, Kind::Theorem, name.as_str())?,
-            Part::Call(_, _) => {}
+            Part::Call(_, call) => add_key(alloc, keys, Kind::Tac, call.name.as_str())?,
         }
     }
     Ok(())
@@ -183,7 +187,7 @@ pub(crate) fn cited_keys(alloc: Global, command: &LocalCommand) -> Result<Vec<Ke
             add_term(alloc, &mut keys, &quotation.term)?;
             Ok(keys)
         }
-        LocalCommand::Apply(tactic) => {
+        LocalCommand::Apply(tactic) | LocalCommand::DefineTac { name: _, tactic } => {
             let mut keys = Vec::new(alloc);
             add_parts(alloc, &mut keys, &parts_of(alloc, tactic)?)?;
             Ok(keys)
@@ -204,6 +208,11 @@ pub(crate) fn made_keys(alloc: Global, command: &LocalCommand) -> Result<Vec<Key
             Ok(keys)
         }
         LocalCommand::Apply(_) | LocalCommand::Qed => Ok(Vec::new(alloc)),
+        LocalCommand::DefineTac { name, tactic: _ } => {
+            let mut keys = Vec::new(alloc);
+            add_key(alloc, &mut keys, Kind::Tac, name.as_str())?;
+            Ok(keys)
+        }
         LocalCommand::Make(making) => made_by_making(alloc, making),
     }
 }

@@ -26,6 +26,7 @@ fn in_prelude(kind: Kind, name: &str) -> bool
                 | "ONTO"
         ),
         Kind::Theorem => is_prelude_theorem(name),
+        Kind::Tac => false,
     }
 }
 
@@ -71,7 +72,7 @@ pub(crate) fn is_unknown(kind: Kind, standing: bool) -> bool
     ensures { result ≡ is_unknown kind standing }
 {
     match kind {
-        Kind::Type | Kind::Constant => false,
+        Kind::Type | Kind::Constant | Kind::Tac => false,
         Kind::Theorem => !standing,
     }
 }

@@ -58,7 +58,7 @@ fn shown_goals(alloc: Global, goals: &[Goal]) -> Result<Vec<ShownGoal>, AllocErr
     Ok(shown)
 }
 
-/// An entry as clients see it: `type N/k`, `const N:ty` or `thm N |- p`.
+/// An entry as clients see it: `type N/k`, `const N:ty`, `thm N |- p` or `tac N`.
 pub fn entry_text(alloc: Global, key: &Key, entry: &Value) -> Result<String, AllocError>
     ensures { IfOk result (λ text. string_bytes text ≡ entry_text (key.now, entry.now)) }
 {
@@ -75,6 +75,7 @@ pub fn entry_text(alloc: Global, key: &Key, entry: &Value) -> Result<String, All
             let conclusion = show_term(alloc, theorem.concl())?;
             shown_entry(alloc, "thm ", key.name(), " |- ", conclusion.as_str())
         }
+        ValueNode::Tac { .. } => shown_entry(alloc, "tac ", key.name(), "", ""),
     }
 }
 

@@ -18,7 +18,7 @@ use hol_theory::{Key, Value, ValueNode};
 use hol_types::Ty;
 use std::alloc::{AllocError, Global};
 
-/// The union of the bases of all that is resolved: of the theorems that are cited, and of the constants and types in the readings.
+/// The union of the bases of all that is resolved: of the theorems that are cited, of the expressions that are called, and of the constants and types in the readings.
 pub(crate) fn resolved_basis(
     alloc: Global,
     reads: &Reads,
@@ -68,9 +68,9 @@ fn of_quotation(
     Ok(readings)
 }
 
-// The union of the bases of all that is resolved, of what is cited in some theory. Bases are joined by halves: an item is gone by as often as their number can be halved.
+/// The union of the bases of all that is resolved, of what is cited in some theory. Bases are joined by halves: an item is gone by as often as their number can be halved.
 #[tactic(auto, using(crate::proofs::CitedBases::of_none))]
-fn basis_of(
+pub(crate) fn basis_of(
     alloc: Global,
     cited: &[(Key, Option<Value>)],
     readings: &[(usize, Quoted)],
@@ -110,5 +110,6 @@ fn basis_at(
             basis.copy()
         }
         ValueNode::Theorem(theorem) => theorem.basis().copy(),
+        ValueNode::Tac { basis, .. } => basis.copy(),
     }
 }

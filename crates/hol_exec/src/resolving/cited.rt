@@ -50,7 +50,7 @@ pub(crate) fn theorem_at<'a>(setup: &'a Setup, value: &'a (Key, Option<Value>)) 
 {
     match &value.1 {
         Some(entry) => match entry.node() {
-            ValueNode::Type { .. } | ValueNode::Constant { .. } => None,
+            ValueNode::Type { .. } | ValueNode::Constant { .. } | ValueNode::Tac { .. } => None,
             ValueNode::Theorem(theorem) => Some(theorem),
         },
         None => prelude_theorem_at(setup, &value.0),
@@ -61,7 +61,7 @@ fn prelude_theorem_at<'a>(setup: &'a Setup, key: &Key) -> Option<&'a Thm>
     ensures { MatchOption result (prelude_theorem_at key.now.kind key.now.name ≡ None) (λ th. prelude_theorem_at key.now.kind key.now.name ≡ Some th.now) }
 {
     match key.kind() {
-        Kind::Type | Kind::Constant => None,
+        Kind::Type | Kind::Constant | Kind::Tac => None,
         Kind::Theorem => setup.prelude_theorem(key.name()),
     }
 }

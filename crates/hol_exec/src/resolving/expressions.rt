@@ -3,9 +3,9 @@ ghost use Rattle.std.specs.Prelude.{◌≡◌, IfOk, Result, Ok, Err, Some, opti
 ghost use Rattle.std.specs.Option.{option_map};
 ghost use Rattle.hol_terms.specs.Nameless.{nameless};
 ghost use Rattle.hol_goal.specs.ArgumentsView.{args_value};
-ghost use Rattle.hol_combine.specs.ExprValue.{CallValue, ExprValue, ExprValues, exprs};
+ghost use Rattle.hol_combine.specs.ExprValue.{ExprValue, ExprValues, exprs};
 ghost use Rattle.hol_combine.specs.ExprValue as expr;
-ghost use Rattle.hol_combine.specs.ExprView.{call_value, theorem_tac_value, expr_of_node};
+ghost use Rattle.hol_combine.specs.ExprView.{theorem_tac_value, expr_of_node};
 ghost use Rattle.hol_notation_tactics.specs.Text.{tac_texts, Then, OrElse};
 ghost use Rattle.hol_resolve.specs.Over.{AreOver, AreWithin};
 ghost use Rattle.hol_resolve.specs.Readings.{term_at};
@@ -13,9 +13,8 @@ ghost use Rattle.hol_resolve.specs.FormsView.{written_value};
 ghost use Rattle.hol_resolve.specs.ReadingView.{list_value, readings_value};
 ghost use Rattle.hol_exec.specs.Expr.{RefusedValue, both, mapped, named_result, refused_by, term_before, formula, arguments_for, resolved_call, resolved_theorem_tac, resolved_whole, resolved_handing, resolved_expr, resolved_exprs};
 ghost use Rattle.hol_exec.specs.ContextView.{context_value, IsContext};
-ghost use Rattle.hol_exec.specs.ExprView.{IsFound, IsFault, IsRefusal, IsCallFound, IsTheoremTacFound, AreArgumentsFound, IsNodeFound, ArePartsFound, IsChainFound, AreAlternativesFound, handed};
+ghost use Rattle.hol_exec.specs.ExprView.{IsFound, IsFault, IsRefusal, IsTheoremTacFound, AreArgumentsFound, ArePartsFound, IsChainFound, AreAlternativesFound, handed};
 ghost use Rattle.hol_exec.specs.Resolved.{cited_theorems};
-ghost use Rattle.hol_exec.specs.Valid.{IsRunnableExpr};
 
 use crate::reading::is_statement;
 use crate::reads::Reads;
@@ -61,33 +60,21 @@ pub(crate) fn resolve_expr<N: LooksUp>(
     requires { IsContext context.now }
     ensures { IsFound (resolved_expr (context_value (N.LooksUp.table_of names.now) context.now) tactic.now) result }
 {
-    let node = resolve_node(alloc, names, context, tactic)?;
-    Ok(Expr::new(alloc, node)?)
-}
-
-// Resolves the top node of an expression.
-#[cycle(resolve_expr)]
-fn resolve_node<N: LooksUp>(
-    alloc: Global,
-    names: &N,
-    context: &Context<'_>,
-    tactic: &TacExpr,
-) -> Result<ExprNode, Unresolved>
-    requires { IsContext context.now }
-    ensures { IsNodeFound (resolved_expr (context_value (N.LooksUp.table_of names.now) context.now) tactic.now) result }
-{
     match tactic.node() {
-        TacExprNode::Call(call) => call_node(resolve_call(alloc, names, context, call)),
+        TacExprNode::Call(call) => resolve_call(alloc, names, context, call),
         TacExprNode::Then(first, second) => resolve_then(alloc, names, context, first, second),
         TacExprNode::OrElse(first, second) => resolve_or_else(alloc, names, context, first, second),
         TacExprNode::ThenL(first, parts) => resolve_then_each(alloc, names, context, first, parts),
-        TacExprNode::Repeat(part) => repeat_node(resolve_expr(alloc, names, context, part)),
-        TacExprNode::Try(part) => try_node(resolve_expr(alloc, names, context, part)),
-        TacExprNode::Changed(part) => changed_node(resolve_expr(alloc, names, context, part)),
-        TacExprNode::Every(parts) => every_node(resolve_each(alloc, names, context, parts)),
-        TacExprNode::First(parts) => first_node(resolve_each(alloc, names, context, parts)),
+        TacExprNode::Repeat(part) => repeat_node(alloc, resolve_expr(alloc, names, context, part)),
+        TacExprNode::Try(part) => try_node(alloc, resolve_expr(alloc, names, context, part)),
+        TacExprNode::Changed(part) => changed_node(
+            alloc,
+            resolve_expr(alloc, names, context, part),
+        ),
+        TacExprNode::Every(parts) => every_node(alloc, resolve_each(alloc, names, context, parts)),
+        TacExprNode::First(parts) => first_node(alloc, resolve_each(alloc, names, context, parts)),
         TacExprNode::Replicate(times, part) => {
-            replicate_node(*times, resolve_expr(alloc, names, context, part))
+            replicate_node(alloc, *times, resolve_expr(alloc, names, context, part))
         }
         TacExprNode::DischThen(call) => hand(alloc, names, context, Handing::DischThen, call),
         TacExprNode::PopAssum(call) => hand(alloc, names, context, Handing::PopAssum, call),
@@ -106,12 +93,13 @@ fn resolve_then_each<N: LooksUp>(
     context: &Context<'_>,
     first: &TacExpr,
     parts: &[TacExpr],
-) -> Result<ExprNode, Unresolved>
+) -> Result<Expr, Unresolved>
     requires { IsContext context.now }
-    ensures { IsNodeFound (both expr.ThenL (resolved_expr (context_value (N.LooksUp.table_of names.now) context.now) first.now) (resolved_exprs (context_value (N.LooksUp.table_of names.now) context.now) (tac_texts parts.now))) result }
+    ensures { IsFound (both expr.ThenL (resolved_expr (context_value (N.LooksUp.table_of names.now) context.now) first.now) (resolved_exprs (context_value (N.LooksUp.table_of names.now) context.now) (tac_texts parts.now))) result }
 {
     let first = resolve_expr(alloc, names, context, first)?;
-    Ok(ExprNode::ThenL(first, resolve_each(alloc, names, context, parts)?))
+    let parts = resolve_each(alloc, names, context, parts)?;
+    Ok(Expr::new(alloc, ExprNode::ThenL(first, parts))?)
 }
 
 // Resolves each in turn.
@@ -140,16 +128,16 @@ fn resolve_then<N: LooksUp>(
     context: &Context<'_>,
     first: &TacExpr,
     second: &TacExpr,
-) -> Result<ExprNode, Unresolved>
+) -> Result<Expr, Unresolved>
     requires { IsContext context.now }
-    ensures { IsNodeFound (resolved_expr (context_value (N.LooksUp.table_of names.now) context.now) (Then first.now second.now)) result }
+    ensures { IsFound (resolved_expr (context_value (N.LooksUp.table_of names.now) context.now) (Then first.now second.now)) result }
 {
     let mut parts = Vec::new(alloc);
     push_then(alloc, names, context, &mut parts, first)?;
     parts.push(resolve_expr(alloc, names, context, second)?)?;
     let head = parts.remove(0);
     let next = parts.remove(0);
-    Ok(ExprNode::Then(head, next, parts))
+    Ok(Expr::new(alloc, ExprNode::Then(head, next, parts))?)
 }
 
 // Adds the parts of a chain of THEN, resolved.
@@ -164,27 +152,11 @@ fn push_then<N: LooksUp>(
     requires { IsContext context.now }
     ensures { IsChainFound (resolved_expr (context_value (N.LooksUp.table_of names.now) context.now) tactic.now) parts.old.items parts.new.items result }
 {
-    match tactic.node() {
-        TacExprNode::Then(first, second) => {
-            push_then(alloc, names, context, parts, first)?;
-            Ok(parts.push(resolve_expr(alloc, names, context, second)?)?)
-        }
-        TacExprNode::Call(_)
-        | TacExprNode::ThenL(_, _)
-        | TacExprNode::OrElse(_, _)
-        | TacExprNode::Repeat(_)
-        | TacExprNode::Try(_)
-        | TacExprNode::Changed(_)
-        | TacExprNode::Every(_)
-        | TacExprNode::First(_)
-        | TacExprNode::Replicate(_, _)
-        | TacExprNode::DischThen(_)
-        | TacExprNode::PopAssum(_)
-        | TacExprNode::FirstAssum(_)
-        | TacExprNode::SubgoalThen(_, _) => {
-            Ok(parts.push(resolve_expr(alloc, names, context, tactic)?)?)
-        }
+    if let TacExprNode::Then(first, second) = tactic.node() {
+        push_then(alloc, names, context, parts, first)?;
+        return Ok(parts.push(resolve_expr(alloc, names, context, second)?)?);
     }
+    Ok(parts.push(resolve_expr(alloc, names, context, tactic)?)?)
 }
 
 // Resolves `first ORELSE second`. A chain, which is written from the right, becomes a list.
@@ -195,15 +167,15 @@ fn resolve_or_else<N: LooksUp>(
     context: &Context<'_>,
     first: &TacExpr,
     second: &TacExpr,
-) -> Result<ExprNode, Unresolved>
+) -> Result<Expr, Unresolved>
     requires { IsContext context.now }
-    ensures { IsNodeFound (resolved_expr (context_value (N.LooksUp.table_of names.now) context.now) (OrElse first.now second.now)) result }
+    ensures { IsFound (resolved_expr (context_value (N.LooksUp.table_of names.now) context.now) (OrElse first.now second.now)) result }
 {
     let head = resolve_expr(alloc, names, context, first)?;
     let mut parts = Vec::new(alloc);
     push_or_else(alloc, names, context, &mut parts, second)?;
     let next = parts.remove(0);
-    Ok(ExprNode::OrElse(head, next, parts))
+    Ok(Expr::new(alloc, ExprNode::OrElse(head, next, parts))?)
 }
 
 // Adds the parts of a chain of ORELSE, resolved.
@@ -218,76 +190,57 @@ fn push_or_else<N: LooksUp>(
     requires { IsContext context.now }
     ensures { AreAlternativesFound (resolved_expr (context_value (N.LooksUp.table_of names.now) context.now) tactic.now) parts.old.items parts.new.items result }
 {
-    match tactic.node() {
-        TacExprNode::OrElse(first, second) => {
-            parts.push(resolve_expr(alloc, names, context, first)?)?;
-            push_or_else(alloc, names, context, parts, second)
-        }
-        TacExprNode::Call(_)
-        | TacExprNode::Then(_, _)
-        | TacExprNode::ThenL(_, _)
-        | TacExprNode::Repeat(_)
-        | TacExprNode::Try(_)
-        | TacExprNode::Changed(_)
-        | TacExprNode::Every(_)
-        | TacExprNode::First(_)
-        | TacExprNode::Replicate(_, _)
-        | TacExprNode::DischThen(_)
-        | TacExprNode::PopAssum(_)
-        | TacExprNode::FirstAssum(_)
-        | TacExprNode::SubgoalThen(_, _) => {
-            Ok(parts.push(resolve_expr(alloc, names, context, tactic)?)?)
-        }
+    if let TacExprNode::OrElse(first, second) = tactic.node() {
+        parts.push(resolve_expr(alloc, names, context, first)?)?;
+        return push_or_else(alloc, names, context, parts, second);
     }
+    Ok(parts.push(resolve_expr(alloc, names, context, tactic)?)?)
 }
 
-// The node of a call that is resolved, if it is: its refusal is that of the whole.
-fn call_node(call: Result<TacCall, Unresolved>) -> Result<ExprNode, Unresolved>
-    ensures { (r : Result CallValue RefusedValue) → IsCallFound r call → IsNodeFound (mapped expr.Call r) result }
+// The expression of REPEAT before a part that is resolved, if it is: its refusal is that of the whole.
+fn repeat_node(alloc: Global, part: Result<Expr, Unresolved>) -> Result<Expr, Unresolved>
+    ensures { (r : Result ExprValue RefusedValue) → IsFound r part → IsFound (mapped expr.Repeat r) result }
 {
-    Ok(ExprNode::Call(call?))
-}
-
-// The same of REPEAT before a part.
-fn repeat_node(part: Result<Expr, Unresolved>) -> Result<ExprNode, Unresolved>
-    ensures { (r : Result ExprValue RefusedValue) → IsFound r part → IsNodeFound (mapped expr.Repeat r) result }
-{
-    Ok(ExprNode::Repeat(part?))
+    Ok(Expr::new(alloc, ExprNode::Repeat(part?))?)
 }
 
 // The same of TRY.
-fn try_node(part: Result<Expr, Unresolved>) -> Result<ExprNode, Unresolved>
-    ensures { (r : Result ExprValue RefusedValue) → IsFound r part → IsNodeFound (mapped expr.Try r) result }
+fn try_node(alloc: Global, part: Result<Expr, Unresolved>) -> Result<Expr, Unresolved>
+    ensures { (r : Result ExprValue RefusedValue) → IsFound r part → IsFound (mapped expr.Try r) result }
 {
-    Ok(ExprNode::Try(part?))
+    Ok(Expr::new(alloc, ExprNode::Try(part?))?)
 }
 
 // The same of CHANGED_TAC.
-fn changed_node(part: Result<Expr, Unresolved>) -> Result<ExprNode, Unresolved>
-    ensures { (r : Result ExprValue RefusedValue) → IsFound r part → IsNodeFound (mapped expr.Changed r) result }
+fn changed_node(alloc: Global, part: Result<Expr, Unresolved>) -> Result<Expr, Unresolved>
+    ensures { (r : Result ExprValue RefusedValue) → IsFound r part → IsFound (mapped expr.Changed r) result }
 {
-    Ok(ExprNode::Changed(part?))
+    Ok(Expr::new(alloc, ExprNode::Changed(part?))?)
 }
 
 // The same of REPLICATE_TAC.
-fn replicate_node(times: usize, part: Result<Expr, Unresolved>) -> Result<ExprNode, Unresolved>
-    ensures { (r : Result ExprValue RefusedValue) → IsFound r part → IsNodeFound (mapped (expr.Replicate times) r) result }
+fn replicate_node(
+    alloc: Global,
+    times: usize,
+    part: Result<Expr, Unresolved>,
+) -> Result<Expr, Unresolved>
+    ensures { (r : Result ExprValue RefusedValue) → IsFound r part → IsFound (mapped (expr.Replicate times) r) result }
 {
-    Ok(ExprNode::Replicate(times, part?))
+    Ok(Expr::new(alloc, ExprNode::Replicate(times, part?))?)
 }
 
 // The same of EVERY before parts.
-fn every_node(parts: Result<Vec<Expr>, Unresolved>) -> Result<ExprNode, Unresolved>
-    ensures { (r : Result ExprValues RefusedValue) → ArePartsFound r parts → IsNodeFound (mapped expr.Every r) result }
+fn every_node(alloc: Global, parts: Result<Vec<Expr>, Unresolved>) -> Result<Expr, Unresolved>
+    ensures { (r : Result ExprValues RefusedValue) → ArePartsFound r parts → IsFound (mapped expr.Every r) result }
 {
-    Ok(ExprNode::Every(parts?))
+    Ok(Expr::new(alloc, ExprNode::Every(parts?))?)
 }
 
 // The same of FIRST.
-fn first_node(parts: Result<Vec<Expr>, Unresolved>) -> Result<ExprNode, Unresolved>
-    ensures { (r : Result ExprValues RefusedValue) → ArePartsFound r parts → IsNodeFound (mapped expr.First r) result }
+fn first_node(alloc: Global, parts: Result<Vec<Expr>, Unresolved>) -> Result<Expr, Unresolved>
+    ensures { (r : Result ExprValues RefusedValue) → ArePartsFound r parts → IsFound (mapped expr.First r) result }
 {
-    Ok(ExprNode::First(parts?))
+    Ok(Expr::new(alloc, ExprNode::First(parts?))?)
 }
 
 // Resolves a function that a theorem is handed to.
@@ -297,48 +250,52 @@ fn hand<N: LooksUp>(
     context: &Context<'_>,
     handing: Handing,
     call: &written::TacCall,
-) -> Result<ExprNode, Unresolved>
+) -> Result<Expr, Unresolved>
     requires { IsContext context.now }
-    ensures { IsNodeFound (handed handing (resolved_handing (context_value (N.LooksUp.table_of names.now) context.now) call.now)) result }
+    ensures { IsFound (handed handing (resolved_handing (context_value (N.LooksUp.table_of names.now) context.now) call.now)) result }
 {
     let tac = resolve_theorem_tac(alloc, names, context, call)?;
-    Ok(ExprNode::Hand(handing, tac))
+    Ok(Expr::new(alloc, ExprNode::Hand(handing, tac))?)
 }
 
-// The same of SUBGOAL_THEN, which hands over the formula that is written.
+// Resolves SUBGOAL_THEN, which hands over the formula that is written.
 fn hand_formula<N: LooksUp>(
     alloc: Global,
     names: &N,
     context: &Context<'_>,
     quotation: &Quotation,
     call: &written::TacCall,
-) -> Result<ExprNode, Unresolved>
+) -> Result<Expr, Unresolved>
     requires { IsContext context.now }
-    ensures { IsNodeFound (both expr.SubgoalThen (formula quotation.now.place (term_at (readings_value context.now.readings.now) quotation.now.place)) (resolved_handing (context_value (N.LooksUp.table_of names.now) context.now) call.now)) result }
+    ensures { IsFound (both expr.SubgoalThen (formula quotation.now.place (term_at (readings_value context.now.readings.now) quotation.now.place)) (resolved_handing (context_value (N.LooksUp.table_of names.now) context.now) call.now)) result }
 {
     let formula = resolve_formula(alloc, context.readings, quotation)?;
     hand(alloc, names, context, Handing::SubgoalThen(formula), call)
 }
 
-// Resolves a call: what it calls, and its arguments.
+// Resolves a call: what it calls, and its arguments. A use of an expression that was named is one node, whatever its size.
 fn resolve_call<N: LooksUp>(
     alloc: Global,
     names: &N,
     context: &Context<'_>,
     call: &written::TacCall,
-) -> Result<TacCall, Unresolved>
+) -> Result<Expr, Unresolved>
     requires { IsContext context.now }
-    ensures { IsCallFound (resolved_whole (context_value (N.LooksUp.table_of names.now) context.now) call.now) result }
+    ensures { IsFound (resolved_whole (context_value (N.LooksUp.table_of names.now) context.now) call.now) result }
 {
     let Some((callee, written)) = called(names, Role::Whole, call, context.reads) else {
         return Err(unknown(alloc, call)?);
     };
     match callee {
-        Callee::Registered(tac) => Ok(TacCall {
-            index: tac.index,
-            name: String::from_str(alloc, call.name.as_str())?,
-            args: arguments(alloc, context, call, written)?,
-        }),
+        Callee::Registered(tac) => {
+            let call = TacCall {
+                index: tac.index,
+                name: String::from_str(alloc, call.name.as_str())?,
+                args: arguments(alloc, context, call, written)?,
+            };
+            Ok(Expr::new(alloc, ExprNode::Call(call))?)
+        }
+        Callee::Defined(expr, _) => Ok(expr.defined(alloc)?),
     }
 }
 
@@ -357,13 +314,15 @@ fn resolve_theorem_tac<N: LooksUp>(
     };
     match callee {
         Callee::Registered(tac) => {
-            let args = arguments(alloc, context, call, written)?;
+            let name = String::from_str(alloc, call.name.as_str())?;
+            let term = term_before(arguments(alloc, context, call, written)?);
             Ok(TheoremTac {
                 index: tac.index,
-                name: String::from_str(alloc, call.name.as_str())?,
-                term: term_before(args),
+                name,
+                term,
             })
         }
+        Callee::Defined(_, _) => Err(unknown(alloc, call)?),
     }
 }
 

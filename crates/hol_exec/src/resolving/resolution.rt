@@ -1,14 +1,13 @@
 //! Expressions of functions on goals: what is written, resolved.
-ghost use Rattle.std.specs.Prelude.{◌≡◌, IfOk, None};
+ghost use Rattle.std.specs.Prelude.{◌≡◌, IfOk, None, option_copied};
 ghost use Rattle.hol_exec.specs.Resolved.{resolved_basis};
 ghost use Rattle.hol_notation_tactics.specs.Parts.{parts_of};
 ghost use Rattle.hol_resolve.specs.Over.{AreOver};
 ghost use Rattle.hol_resolve.specs.ReadingView.{readings_value, readings_result};
 ghost use Rattle.hol_resolve.specs.Readings.{AreRead};
 ghost use Rattle.hol_exec.specs.Signature.{signature_of};
-ghost use Rattle.hol_exec.specs.Setup.{SetupValue};
 ghost use Rattle.hol_exec.specs.SetupView.{setup_value};
-ghost use Rattle.hol_exec.specs.Expr.{formulas_in, first_not_bool, resolved_formulas, IsResolvedFitting, IsResolution};
+ghost use Rattle.hol_exec.specs.Expr.{formulas_in, first_not_bool, resolved_untaken, resolved_formulas, IsResolvedFitting, IsResolution};
 ghost use Rattle.hol_exec.specs.ExprView.{resolution_value, IsUnresolved};
 ghost use Rattle.hol_exec.specs.Valid.{IsRunnableIf};
 
@@ -32,22 +31,24 @@ use std::alloc::{AllocError, Global};
 /// What resolving comes to.
 #[derive(Drop)]
 pub(crate) enum Resolution {
-    /// An expression that can be run, with the basis of all that was resolved.
-    Resolved(Expr, Basis),
+    /// An expression that can be run, with the basis of all that was resolved and what its quotations read as.
+    Resolved(Expr, Basis, Readings),
     /// A refusal, and what it speaks of.
     Unresolved(RefusalKind, String),
 }
 
-/// Resolves what is written: unknown theorem; unknown TAC or wrong arguments; then what readings, rules and arguments refuse.
+/// Resolves what is written: unknown theorem; unknown TAC or wrong arguments; what readings refuse; not bool; then a key that is taken, if the command makes one; then what
+/// rules and arguments refuse.
 #[tactic(auto, using(crate::proofs::Resolutions::unknown_theorem, crate::proofs::Resolutions::unknown_tac, crate::proofs::Resolutions::fitting))]
 pub(crate) fn resolve(
     alloc: Global,
     setup: &Setup,
+    taken: Option<&Key>,
     tactic: &TacExpr,
     reads: &Reads,
 ) -> Result<Resolution, AllocError>
-    ensures value { IfOk result (λ r. IsResolution (setup_value setup.now) tactic.now reads.now.cited (resolution_value r)) }
-    ensures runnable { IfOk result (IsRunnableIf (setup_value setup.now)) }
+    ensures value { IfOk result (λ r. IsResolution (setup_value setup.now) (option_copied taken.entry) tactic.now reads.now.cited (resolution_value r)) }
+    ensures runnable { IfOk result IsRunnableIf }
 {
     if let Some(unknown) = reads.first_unknown() {
         let unknown = String::from_str(alloc, unknown)?;
@@ -59,24 +60,25 @@ pub(crate) fn resolve(
         let unfit = String::from_str(alloc, unfit)?;
         return Ok(Resolution::Unresolved(RefusalKind::UnknownTac, unfit));
     }
-    resolve_fitting(alloc, setup, tactic, &parts, reads)
+    resolve_fitting(alloc, setup, taken, tactic, &parts, reads)
 }
 
 // Resolves what is written, where all theorems are known and all calls fit: its quotations are read first.
 fn resolve_fitting(
     alloc: Global,
     setup: &Setup,
+    taken: Option<&Key>,
     tactic: &TacExpr,
     parts: &[Part],
     reads: &Reads,
 ) -> Result<Resolution, AllocError>
     requires { parts.now ≡ parts_of tactic.now }
-    ensures value { IfOk result (λ r. IsResolvedFitting (setup_value setup.now) tactic.now reads.now.cited (resolution_value r)) }
-    ensures runnable { IfOk result (IsRunnableIf (setup_value setup.now)) }
+    ensures value { IfOk result (λ r. IsResolvedFitting (setup_value setup.now) (option_copied taken.entry) tactic.now reads.now.cited (resolution_value r)) }
+    ensures runnable { IfOk result IsRunnableIf }
 {
     let quotations = quotations_in(alloc, parts)?;
     match read_beside(alloc, setup, reads.cited(), &quotations)? {
-        Ok(readings) => resolve_read(alloc, setup, tactic, parts, reads, &readings),
+        Ok(readings) => resolve_read(alloc, setup, taken, tactic, parts, reads, readings),
         Err(refusal) => unresolved(refused_by(alloc, "", refusal)?),
     }
 }
@@ -101,50 +103,70 @@ fn read_beside(
     read_quotations(alloc, quotations, &signature)
 }
 
-// Resolves what is written, whose quotations are read: not bool; then what rules and arguments refuse.
+// Resolves what is written, whose quotations are read: not bool; then a key that is taken; then what rules and arguments refuse.
 fn resolve_read(
     alloc: Global,
     setup: &Setup,
+    taken: Option<&Key>,
     tactic: &TacExpr,
     parts: &[Part],
     reads: &Reads,
-    readings: &Readings,
+    readings: Readings,
 ) -> Result<Resolution, AllocError>
     requires parts { parts.now ≡ parts_of tactic.now }
-    requires over { AreOver (resolved_basis reads.now.cited (readings_value readings.now)) (readings_value readings.now) }
-    ensures value { IfOk result (λ r. resolution_value r ≡ resolved_formulas (setup_value setup.now) tactic.now reads.now.cited (readings_value readings.now) (first_not_bool (readings_value readings.now) (formulas_in (parts_of tactic.now)))) }
-    ensures runnable { IfOk result (IsRunnableIf (setup_value setup.now)) }
+    requires over { AreOver (resolved_basis reads.now.cited (readings_value readings)) (readings_value readings) }
+    ensures value { IfOk result (λ r. resolution_value r ≡ resolved_formulas (setup_value setup.now) (option_copied taken.entry) tactic.now reads.now.cited (readings_value readings) (first_not_bool (readings_value readings) (formulas_in (parts_of tactic.now)))) }
+    ensures runnable { IfOk result IsRunnableIf }
 {
     let formulas = formulas_in(alloc, parts)?;
-    match first_not_bool(readings, &formulas) {
+    match first_not_bool(&readings, &formulas) {
         Some(place) => Ok(Resolution::Unresolved(RefusalKind::NotBool, place.to_string(alloc)?)),
-        None => resolve_formulas(alloc, setup, tactic, reads, readings),
+        None => resolve_untaken(alloc, setup, taken, tactic, reads, readings),
     }
 }
 
-// Resolves what is written, all of whose formulas are of type `bool`.
-fn resolve_formulas(
+// Resolves what is written, all of whose formulas are of type `bool`: a key that is taken; then what rules and arguments refuse.
+fn resolve_untaken(
+    alloc: Global,
+    setup: &Setup,
+    taken: Option<&Key>,
+    tactic: &TacExpr,
+    reads: &Reads,
+    readings: Readings,
+) -> Result<Resolution, AllocError>
+    requires { AreOver (resolved_basis reads.now.cited (readings_value readings)) (readings_value readings) }
+    ensures value { IfOk result (λ r. resolution_value r ≡ resolved_untaken (setup_value setup.now) (option_copied taken.entry) tactic.now reads.now.cited (readings_value readings)) }
+    ensures runnable { IfOk result IsRunnableIf }
+{
+    match taken {
+        Some(key) => Ok(Resolution::Unresolved(RefusalKind::NameTaken, key.text(alloc)?)),
+        None => resolve_all(alloc, setup, tactic, reads, readings),
+    }
+}
+
+// Resolves what is written, past all that names and readings refuse.
+fn resolve_all(
     alloc: Global,
     setup: &Setup,
     tactic: &TacExpr,
     reads: &Reads,
-    readings: &Readings,
+    readings: Readings,
 ) -> Result<Resolution, AllocError>
-    requires { AreOver (resolved_basis reads.now.cited (readings_value readings.now)) (readings_value readings.now) }
-    ensures value { IfOk result (λ r. resolution_value r ≡ resolved_formulas (setup_value setup.now) tactic.now reads.now.cited (readings_value readings.now) None) }
-    ensures runnable { IfOk result (IsRunnableIf (setup_value setup.now)) }
+    requires { AreOver (resolved_basis reads.now.cited (readings_value readings)) (readings_value readings) }
+    ensures value { IfOk result (λ r. resolution_value r ≡ resolved_untaken (setup_value setup.now) None tactic.now reads.now.cited (readings_value readings)) }
+    ensures runnable { IfOk result IsRunnableIf }
 {
     let theorems = cited_theorems(alloc, setup, reads.cited())?;
     let basis = resolved_basis(alloc, reads, readings.list())?;
     let context = Context {
         reads,
         theorems: &theorems,
-        readings,
+        readings: &readings,
         basis: &basis,
         lemmas: setup.lemmas(),
     };
     match resolve_expr(alloc, setup, &context, tactic) {
-        Ok(expr) => Ok(Resolution::Resolved(expr, basis)),
+        Ok(expr) => Ok(Resolution::Resolved(expr, basis, readings)),
         Err(fault) => unresolved(fault),
     }
 }
@@ -152,7 +174,7 @@ fn resolve_formulas(
 // A refusal, unless memory is short.
 fn unresolved(fault: Unresolved) -> Result<Resolution, AllocError>
     ensures value { IsUnresolved fault result }
-    ensures runnable { (setup : SetupValue) → IfOk result (IsRunnableIf setup) }
+    ensures runnable { IfOk result IsRunnableIf }
 {
     match fault {
         Unresolved::Refused(kind, arg) => Ok(Resolution::Unresolved(kind, arg)),

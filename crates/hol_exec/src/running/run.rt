@@ -1,5 +1,5 @@
 //! The outcome of a command from what it reads.
-ghost use Rattle.std.specs.Prelude.{◌≡◌, ◌≤◌, ◌+◌, ◌-◌, ◌^◌, ℕ, List, min, IfOk, [], ◌∷◌};
+ghost use Rattle.std.specs.Prelude.{◌≡◌, true, ◌≤◌, ◌+◌, ◌-◌, ◌^◌, ℕ, List, min, IfOk, [], ◌∷◌};
 ghost use Rattle.hol_terms.specs.Nameless.{nameless};
 ghost use Rattle.hol_resolve.specs.Reading.{ReadsAs, IsTermReadAs};
 ghost use Rattle.hol_resolve.specs.Readings.{ATerm};
@@ -11,13 +11,14 @@ ghost use Rattle.hol_exec.specs.SetupView.{setup_value};
 ghost use Rattle.hol_kernel.specs.Items.{Items};
 ghost use Rattle.hol_goal.specs.Goal.{GoalValue};
 ghost use Rattle.hol_combine.specs.Runs.{RunValue};
+ghost use Rattle.hol_combine.specs.Suits.{suits_expr};
 ghost use Rattle.hol_combine.specs.RunView.{refusal_value, IsError};
 ghost use Rattle.hol_exec.specs.Local.{IsLocalOutcome, IsOpening, IsApplying, given_by, refused_outcome, run_outcome, opens, opens_term, applied, finishes, finished};
 ghost use Rattle.hol_exec.specs.Signature.{signature_of};
 ghost use Rattle.hol_exec.specs.Resolved.{resolved_basis};
 ghost use Rattle.hol_exec.specs.Standing.{first_taken};
 ghost use Rattle.hol_exec.specs.OutcomeValue.{Leaves};
-ghost use Rattle.hol_exec.specs.Valid.{IsStatement, IsLeft, IsRunnableExpr};
+ghost use Rattle.hol_exec.specs.Valid.{IsStatement, IsLeft};
 
 use crate::declaring::making;
 use crate::reading::{is_statement, read_cited};
@@ -25,6 +26,7 @@ use crate::reads::{Closing, Reads};
 use crate::reports::RefusalKind;
 use crate::resolving::{Resolution, resolve, term_basis};
 use crate::running::meter::Meter;
+use crate::running::naming::name_tactic;
 use crate::running::outcome::Outcome;
 use crate::running::refused::{name_taken, refused, refused_at, refused_name};
 use crate::running::setup::Setup;
@@ -80,6 +82,10 @@ fn outcome_from(
         )),
         LocalCommand::Apply(tactic) => apply_tactic(alloc, setup, tactic, reads, names),
         LocalCommand::Qed => Ok((finish(alloc, setup, reads)?, Tested::none(alloc))),
+        LocalCommand::DefineTac { name, tactic } => Ok((
+            name_tactic(alloc, setup, name.as_str(), tactic, reads)?,
+            Tested::none(alloc),
+        )),
         LocalCommand::Make(command) => Ok((
             making(alloc, setup, command, reads)?,
             Tested::none(alloc),
@@ -161,8 +167,8 @@ fn apply_tactic(
             Tested::none(alloc),
         ));
     }
-    match resolve(alloc, setup, tactic, reads)? {
-        Resolution::Resolved(expr, basis) => applied(alloc, setup, reads, names, &expr, basis),
+    match resolve(alloc, setup, None, tactic, reads)? {
+        Resolution::Resolved(expr, basis, _) => applied(alloc, setup, reads, names, &expr, basis),
         Resolution::Unresolved(kind, arg) => {
             Ok((Outcome::refuses(kind, arg), Tested::none(alloc)))
         }
@@ -178,7 +184,7 @@ fn applied(
     expr: &Expr,
     basis: Basis,
 ) -> Result<(Outcome, Tested), AllocError>
-    requires { IsRunnableExpr (setup_value setup.now).table basis expr.now }
+    requires { suits_expr expr.now basis ≡ true }
     ensures { IfOk result (λ r. record { outcome = r.0; tested = r.1 } ≡ applied (setup_value setup.now) names.now reads.now.goal expr.now basis) }
 {
     let Some(goal) = reads.goal() else {

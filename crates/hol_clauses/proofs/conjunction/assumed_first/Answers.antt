@@ -10,12 +10,12 @@ pub assumed_conclusion-requires : goal.assumed_conclusion-requires
 assumed_conclusion-requires c =
     record { over = c.requires.over }
 
-pub conjunct1-requires : goal.conjunct1-requires
-conjunct1-requires c =
+pub conjunct1-made-requires : goal.conjunct1-made-requires
+conjunct1-made-requires c =
     rw c.in_ok-own.ensures record { over = refl; is = c.requires.is }
 
 pub returns : goal.returns
 returns c =
     let all = concl_of c.args.all.now in
-    became c.conjunct1.result (theorem_on c.in_ok-own.own.basis (first_conjunct c.in_ok-own.own.sequent)) (theorem_under all (lhs all)) c.conjunct1.ensures
+    became c.conjunct1-made.result (theorem_on c.in_ok-own.own.basis (first_conjunct c.in_ok-own.own.sequent)) (theorem_under all (lhs all)) c.conjunct1-made.ensures
     (λ i. theorem_on (c.in_ok-own.ensures i).basis (first_conjunct (c.in_ok-own.ensures i).sequent))

@@ -10,12 +10,12 @@ pub assumed_conclusion-requires : goal.assumed_conclusion-requires
 assumed_conclusion-requires c =
     record { over = c.requires.over }
 
-pub conjunct2-requires : goal.conjunct2-requires
-conjunct2-requires c =
+pub conjunct2-made-requires : goal.conjunct2-made-requires
+conjunct2-made-requires c =
     rw c.in_ok-own.ensures record { over = refl; is = c.requires.is }
 
 pub returns : goal.returns
 returns c =
     let all = concl_of c.args.all.now in
-    became c.conjunct2.result (theorem_on c.in_ok-own.own.basis (second_conjunct c.in_ok-own.own.sequent)) (theorem_under all (rhs all)) c.conjunct2.ensures
+    became c.conjunct2-made.result (theorem_on c.in_ok-own.own.basis (second_conjunct c.in_ok-own.own.sequent)) (theorem_under all (rhs all)) c.conjunct2-made.ensures
     (λ i. theorem_on (c.in_ok-own.ensures i).basis (second_conjunct (c.in_ok-own.ensures i).sequent))

@@ -14,8 +14,8 @@ pub assumed_second-requires : goal.assumed_second-requires
 assumed_second-requires c =
     rw c.in_ok-back.ensures record { over = c.requires.implied.over; is = refl }
 
-pub equivalent-requires : goal.equivalent-requires
-equivalent-requires c =
+pub equivalent-made-requires : goal.equivalent-made-requires
+equivalent-made-requires c =
     let p = concl_of c.args.p.now in
     let q = concl_of c.args.q.now in
     rw (c.in_ok-second.ensures, c.in_ok-back.ensures) record { first = union_from p (conjunction q p) c.args.q.now c.args.p.now c.requires.implied c.requires.own; second = under_from (conjunction q p) p }
@@ -24,5 +24,5 @@ pub returns : goal.returns
 returns c =
     let p = concl_of c.args.p.now in
     let q = concl_of c.args.q.now in
-    became c.equivalent.result (theorem_of (equivalence (concl_of c.in_ok-back.back) (concl_of c.in_ok-second.second))) (theorem_of (equivalence (conjunction q p) p)) c.equivalent.ensures
+    became c.equivalent-made.result (theorem_of (equivalence (concl_of c.in_ok-back.back) (concl_of c.in_ok-second.second))) (theorem_of (equivalence (conjunction q p) p)) c.equivalent-made.ensures
     (rw (c.in_ok-second.ensures, c.in_ok-back.ensures) refl)

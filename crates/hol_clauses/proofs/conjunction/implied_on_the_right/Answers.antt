@@ -14,8 +14,8 @@ pub assumed_first-requires : goal.assumed_first-requires
 assumed_first-requires c =
     rw c.in_ok-back.ensures record { over = c.requires.own.over; is = refl }
 
-pub equivalent-requires : goal.equivalent-requires
-equivalent-requires c =
+pub equivalent-made-requires : goal.equivalent-made-requires
+equivalent-made-requires c =
     let p = concl_of c.args.p.now in
     let q = concl_of c.args.q.now in
     rw (c.in_ok-first.ensures, c.in_ok-back.ensures) record { first = union_from p (conjunction p q) c.args.p.now c.args.q.now c.requires.own c.requires.implied; second = under_from (conjunction p q) p }
@@ -24,5 +24,5 @@ pub returns : goal.returns
 returns c =
     let p = concl_of c.args.p.now in
     let q = concl_of c.args.q.now in
-    became c.equivalent.result (theorem_of (equivalence (concl_of c.in_ok-back.back) (concl_of c.in_ok-first.first))) (theorem_of (equivalence (conjunction p q) p)) c.equivalent.ensures
+    became c.equivalent-made.result (theorem_of (equivalence (concl_of c.in_ok-back.back) (concl_of c.in_ok-first.first))) (theorem_of (equivalence (conjunction p q) p)) c.equivalent-made.ensures
     (rw (c.in_ok-first.ensures, c.in_ok-back.ensures) refl)

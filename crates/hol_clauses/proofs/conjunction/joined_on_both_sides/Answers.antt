@@ -9,8 +9,8 @@ pub joined_on_the_left-requires : goal.joined_on_the_left-requires
 joined_on_the_left-requires c =
     record { own = c.requires.own; implied = c.requires.implied; rest = c.requires.rest }
 
-pub joined_on_the_right-requires : goal.joined_on_the_right-requires
-joined_on_the_right-requires c =
+pub joined_on_the_right-made-requires : goal.joined_on_the_right-made-requires
+joined_on_the_right-made-requires c =
     record { own = c.requires.own; implied = c.requires.implied; rest = rw c.in_ok-tail.ensures refl }
 
 pub returns : goal.returns
@@ -18,5 +18,5 @@ returns c =
     let p = concl_of c.args.p.now in
     let q = concl_of c.args.q.now in
     let r = concl_of c.args.rest.now in
-    became c.joined_on_the_right.result (theorem_of (conjunction (equivalence (conjunction p q) p) (concl_of c.in_ok-tail.tail))) (theorem_of (conjunction (equivalence (conjunction p q) p) (conjunction (equivalence (conjunction q p) p) r))) c.joined_on_the_right.ensures
+    became c.joined_on_the_right-made.result (theorem_of (conjunction (equivalence (conjunction p q) p) (concl_of c.in_ok-tail.tail))) (theorem_of (conjunction (equivalence (conjunction p q) p) (conjunction (equivalence (conjunction q p) p) r))) c.joined_on_the_right-made.ensures
     (λ i. theorem_of (conjunction (equivalence (conjunction p q) p) (concl_of (c.in_ok-tail.ensures i))))

@@ -9,8 +9,8 @@ pub implied_on_the_left-requires : goal.implied_on_the_left-requires
 implied_on_the_left-requires c =
     record { own = c.requires.own; implied = c.requires.implied }
 
-pub both-requires : goal.both-requires
-both-requires c =
+pub both-made-requires : goal.both-made-requires
+both-made-requires c =
     record { first = rw c.in_ok-first.ensures refl; second = c.requires.rest }
 
 pub returns : goal.returns
@@ -18,5 +18,5 @@ returns c =
     let p = concl_of c.args.p.now in
     let q = concl_of c.args.q.now in
     let r = concl_of c.args.rest.now in
-    became c.both.result (theorem_of (conjunction (concl_of c.in_ok-first.first) r)) (theorem_of (conjunction (equivalence (conjunction q p) p) r)) c.both.ensures
+    became c.both-made.result (theorem_of (conjunction (concl_of c.in_ok-first.first) r)) (theorem_of (conjunction (equivalence (conjunction q p) p) r)) c.both-made.ensures
     (λ i. theorem_of (conjunction (concl_of (c.in_ok-first.ensures i)) r))

@@ -10,8 +10,8 @@ pub absurd-requires : goal.absurd-requires
 absurd-requires c =
     record { over = c.requires.over }
 
-pub joined_on_both_sides-requires : goal.joined_on_both_sides-requires
-joined_on_both_sides-requires c =
+pub joined_on_both_sides-made-requires : goal.joined_on_both_sides-made-requires
+joined_on_both_sides-made-requires c =
     rw (c.in_ok-own.ensures, c.in_ok-any.ensures) record { own = under_from falsity falsity; implied = under_from falsity (concl_of c.args.p.now); rest = c.requires.rest }
 
 pub returns : goal.returns
@@ -20,5 +20,5 @@ returns c =
     let r = concl_of c.args.rest.now in
     let o = concl_of c.in_ok-own.own in
     let a = concl_of c.in_ok-any.any in
-    became c.joined_on_both_sides.result (theorem_of (conjunction (equivalence (conjunction o a) o) (conjunction (equivalence (conjunction a o) o) r))) (theorem_of (conjunction (equivalence (conjunction falsity p) falsity) (conjunction (equivalence (conjunction p falsity) falsity) r))) c.joined_on_both_sides.ensures
+    became c.joined_on_both_sides-made.result (theorem_of (conjunction (equivalence (conjunction o a) o) (conjunction (equivalence (conjunction a o) o) r))) (theorem_of (conjunction (equivalence (conjunction falsity p) falsity) (conjunction (equivalence (conjunction p falsity) falsity) r))) c.joined_on_both_sides-made.ensures
     (rw (c.in_ok-own.ensures, c.in_ok-any.ensures) refl)

@@ -10,13 +10,13 @@ pub joined_on_the_right-requires : goal.joined_on_the_right-requires
 joined_on_the_right-requires c =
     record { own = c.requires.own; implied = rw c.in_ok-holds.ensures (of_from (concl_of c.args.p.now) truth); rest = c.requires.rest }
 
-pub joined_on_the_left-requires : goal.joined_on_the_left-requires
-joined_on_the_left-requires c =
+pub joined_on_the_left-made-requires : goal.joined_on_the_left-made-requires
+joined_on_the_left-made-requires c =
     record { own = c.requires.own; implied = rw c.in_ok-holds.ensures (of_from (concl_of c.args.p.now) truth); rest = rw c.in_ok-tail.ensures refl }
 
 pub returns : goal.returns
 returns c =
     let p = concl_of c.args.p.now in
     let r = concl_of c.args.rest.now in
-    became c.joined_on_the_left.result (theorem_of (conjunction (equivalence (conjunction (concl_of c.in_ok-holds.holds) p) p) (concl_of c.in_ok-tail.tail))) (theorem_of (conjunction (equivalence (conjunction truth p) p) (conjunction (equivalence (conjunction p truth) p) r))) c.joined_on_the_left.ensures
+    became c.joined_on_the_left-made.result (theorem_of (conjunction (equivalence (conjunction (concl_of c.in_ok-holds.holds) p) p) (concl_of c.in_ok-tail.tail))) (theorem_of (conjunction (equivalence (conjunction truth p) p) (conjunction (equivalence (conjunction p truth) p) r))) c.joined_on_the_left-made.ensures
     (rw (c.in_ok-tail.ensures, c.in_ok-holds.ensures) refl)

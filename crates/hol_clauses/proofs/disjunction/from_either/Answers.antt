@@ -14,15 +14,15 @@ pub assumed_conclusion-requires : goal.assumed_conclusion-requires
 assumed_conclusion-requires c =
     record { over = c.requires.over }
 
-pub disj_cases-requires : goal.disj_cases-requires
-disj_cases-requires c =
+pub disj_cases-made-requires : goal.disj_cases-made-requires
+disj_cases-made-requires c =
     rw c.in_ok-all.ensures record { over = refl; first = c.requires.first.over; second = c.requires.second.over; is = c.requires.is; fits = ap strip c.requires.same }
 
 pub returns : goal.returns
 returns c =
     let e = concl_of c.args.either.now in
     let r = concl_of c.args.first.now in
-    became c.disj_cases.result (theorem_on c.in_ok-all.all.basis (by_cases c.in_ok-all.all.sequent c.args.first.now.sequent c.args.second.now.sequent)) (theorem_under e r) c.disj_cases.ensures
+    became c.disj_cases-made.result (theorem_on c.in_ok-all.all.basis (by_cases c.in_ok-all.all.sequent c.args.first.now.sequent c.args.second.now.sequent)) (theorem_under e r) c.disj_cases-made.ensures
     ((λ i. theorem_on (c.in_ok-all.ensures i).basis (by_cases (c.in_ok-all.ensures i).sequent c.args.first.now.sequent c.args.second.now.sequent))
     ∙ (λ i. theorem_over no_items (set.union (set.union (only_hyp e) (c.requires.first.alone i)) (c.requires.second.alone i)) r)
     ∙ ap (λ (hs : Hyps). theorem_over no_items hs r) (none_right (set.union (only_hyp e) no_hyps) ∙ none_right (only_hyp e)))

@@ -23,8 +23,8 @@ from_either-requires c =
     let back : c.in_ok-back.back ≡ theorem_over no_items c.args.p.now.sequent.hyps (disjunction p q) = c.in_ok-back.ensures ∙ (λ i. theorem_over (c.requires.own.over i) c.args.p.now.sequent.hyps (disjunction p (own i))) in
     rw back record { over = refl; is = refl; first = c.requires.own; second = c.requires.implied; same = sym c.requires.same }
 
-pub equivalent-requires : goal.equivalent-requires
-equivalent-requires c =
+pub equivalent-made-requires : goal.equivalent-made-requires
+equivalent-made-requires c =
     let p = concl_of c.args.p.now in
     let q = concl_of c.args.q.now in
     let own : nameless [] c.concl.result.now ≡ q = c.concl.ensures.concl in
@@ -39,5 +39,5 @@ returns c =
     let own : nameless [] c.concl.result.now ≡ q = c.concl.ensures.concl in
     let back : c.in_ok-back.back ≡ theorem_over no_items c.args.p.now.sequent.hyps (disjunction p q) = c.in_ok-back.ensures ∙ (λ i. theorem_over (c.requires.own.over i) c.args.p.now.sequent.hyps (disjunction p (own i))) in
     let cases : c.in_ok-cases.cases ≡ theorem_under (disjunction p q) p = c.in_ok-cases.ensures ∙ (λ i. theorem_under (concl_of (back i)) p) in
-    became c.equivalent.result (theorem_of (equivalence (concl_of c.in_ok-back.back) (concl_of c.in_ok-cases.cases))) (theorem_of (equivalence (disjunction p q) p)) c.equivalent.ensures
+    became c.equivalent-made.result (theorem_of (equivalence (concl_of c.in_ok-back.back) (concl_of c.in_ok-cases.cases))) (theorem_of (equivalence (disjunction p q) p)) c.equivalent-made.ensures
     (λ i. theorem_of (equivalence (concl_of (back i)) (concl_of (cases i))))

@@ -9,8 +9,8 @@ pub joined_on_the_right-requires : goal.joined_on_the_right-requires
 joined_on_the_right-requires c =
     record { own = c.requires.own; implied = c.requires.implied; same = c.requires.same; over = c.requires.over; rest = c.requires.rest }
 
-pub joined_on_the_left-requires : goal.joined_on_the_left-requires
-joined_on_the_left-requires c =
+pub joined_on_the_left-made-requires : goal.joined_on_the_left-made-requires
+joined_on_the_left-made-requires c =
     record { own = c.requires.own; implied = c.requires.implied; same = c.requires.same; over = c.requires.over; rest = rw c.in_ok-tail.ensures refl }
 
 pub returns : goal.returns
@@ -18,5 +18,5 @@ returns c =
     let p = concl_of c.args.p.now in
     let q = concl_of c.args.q.now in
     let r = concl_of c.args.rest.now in
-    became c.joined_on_the_left.result (theorem_of (conjunction (equivalence (disjunction q p) p) (concl_of c.in_ok-tail.tail))) (theorem_of (conjunction (equivalence (disjunction q p) p) (conjunction (equivalence (disjunction p q) p) r))) c.joined_on_the_left.ensures
+    became c.joined_on_the_left-made.result (theorem_of (conjunction (equivalence (disjunction q p) p) (concl_of c.in_ok-tail.tail))) (theorem_of (conjunction (equivalence (disjunction q p) p) (conjunction (equivalence (disjunction p q) p) r))) c.joined_on_the_left-made.ensures
     (λ i. theorem_of (conjunction (equivalence (disjunction q p) p) (concl_of (c.in_ok-tail.ensures i))))

@@ -9,8 +9,8 @@ pub implying_on_the_right-requires : goal.implying_on_the_right-requires
 implying_on_the_right-requires c =
     record { own = c.requires.own; implied = c.requires.implied; same = c.requires.same; over = c.requires.over }
 
-pub both-requires : goal.both-requires
-both-requires c =
+pub both-made-requires : goal.both-made-requires
+both-made-requires c =
     record { first = rw c.in_ok-first.ensures refl; second = c.requires.rest }
 
 pub returns : goal.returns
@@ -18,5 +18,5 @@ returns c =
     let p = concl_of c.args.p.now in
     let q = concl_of c.args.q.now in
     let r = concl_of c.args.rest.now in
-    became c.both.result (theorem_of (conjunction (concl_of c.in_ok-first.first) r)) (theorem_of (conjunction (equivalence (disjunction p q) p) r)) c.both.ensures
+    became c.both-made.result (theorem_of (conjunction (concl_of c.in_ok-first.first) r)) (theorem_of (conjunction (equivalence (disjunction p q) p) r)) c.both-made.ensures
     (λ i. theorem_of (conjunction (concl_of (c.in_ok-first.ensures i)) r))

@@ -13,8 +13,8 @@ pub assumed_conclusion-requires : goal.assumed_conclusion-requires
 assumed_conclusion-requires c =
     record { over = c.requires.over }
 
-pub sym-requires : goal.sym-requires
-sym-requires c =
+pub sym-made-requires : goal.sym-made-requires
+sym-made-requires c =
     let k = concl_of c.args.equal.now in
     let p = lhs k in
     let q = rhs k in
@@ -29,5 +29,5 @@ returns c =
     let q = rhs k in
     let e = equivalence p q in
     let own : c.in_ok-own.own ≡ theorem_under e e = c.in_ok-own.ensures ∙ (λ i. theorem_under (c.requires.is i) (c.requires.is i)) in
-    became c.sym.result (theorem_on c.in_ok-own.own.basis (symmetric c.in_ok-own.own.sequent)) (theorem_under k (equivalence q p)) c.sym.ensures
+    became c.sym-made.result (theorem_on c.in_ok-own.own.basis (symmetric c.in_ok-own.own.sequent)) (theorem_under k (equivalence q p)) c.sym-made.ensures
     ((λ i. theorem_on (own i).basis (symmetric (own i).sequent)) ∙ (λ i. theorem_under (sym c.requires.is i) (equivalence q p)))

@@ -17,12 +17,12 @@ pub falsity_from-requires : goal.falsity_from-requires
 falsity_from-requires c =
     record { over = c.requires.over; is = c.requires.is; own = c.requires.own.over }
 
-pub disch-requires : goal.disch-requires
-disch-requires c =
+pub disch-made-requires : goal.disch-made-requires
+disch-made-requires c =
     rw (c.in_ok-none.ensures, c.concl.ensures.concl) record { over = refl; typed = subst (λ (s : Items). HasType s (concl_of c.args.p.now) bool_type) c.requires.own.over c.well_typed.ensures.conclusion }
 
-pub denied-requires : goal.denied-requires
-denied-requires c =
+pub denied-made-requires : goal.denied-made-requires
+denied-made-requires c =
     let p = concl_of c.args.p.now in
     let q = concl_of c.args.equal.now in
     let hs = c.args.p.now.sequent.hyps in
@@ -37,5 +37,5 @@ returns c =
     let hs = c.args.p.now.sequent.hyps in
     let own : nameless [] c.concl.result.now ≡ p = c.concl.ensures.concl in
     let implies : c.in_ok-implies.implies ≡ theorem_over no_items (set.remove (set.union (only_hyp q) hs) (strip p)) (implication p falsity) = c.in_ok-implies.ensures ∙ (λ i. theorem_on (c.in_ok-none.ensures i).basis (discharged (own i) (c.in_ok-none.ensures i).sequent)) in
-    became c.denied.result (theorem_over no_items c.in_ok-implies.implies.sequent.hyps (negation p)) (theorem_over no_items (set.remove (set.union (only_hyp q) hs) (strip p)) (negation p)) c.denied.ensures
+    became c.denied-made.result (theorem_over no_items c.in_ok-implies.implies.sequent.hyps (negation p)) (theorem_over no_items (set.remove (set.union (only_hyp q) hs) (strip p)) (negation p)) c.denied-made.ensures
     (λ i. theorem_over no_items (implies i).sequent.hyps (negation p))

@@ -9,12 +9,12 @@ pub with_falsity-requires : goal.with_falsity-requires
 with_falsity-requires c =
     c.requires
 
-pub with_truth-requires : goal.with_truth-requires
-with_truth-requires c =
+pub with_truth-made-requires : goal.with_truth-made-requires
+with_truth-made-requires c =
     record { own = c.requires; rest = rw c.in_ok-rest.ensures refl }
 
 pub returns : goal.returns
 returns c =
     let p = concl_of c.args.p.now in
-    became c.with_truth.result (theorem_of (conjunction (equivalence (equivalence truth p) p) (conjunction (equivalence (equivalence p truth) p) (concl_of c.in_ok-rest.rest)))) (theorem_of (eq_rewrites p)) c.with_truth.ensures
+    became c.with_truth-made.result (theorem_of (conjunction (equivalence (equivalence truth p) p) (conjunction (equivalence (equivalence p truth) p) (concl_of c.in_ok-rest.rest)))) (theorem_of (eq_rewrites p)) c.with_truth-made.ensures
     (λ i. theorem_of (conjunction (equivalence (equivalence truth p) p) (conjunction (equivalence (equivalence p truth) p) (concl_of (c.in_ok-rest.ensures i)))))

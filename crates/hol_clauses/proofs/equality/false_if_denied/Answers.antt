@@ -19,8 +19,8 @@ assumed-requires c =
     let typed : HasType no_items p bool_type = subst (λ (s : Items). HasType s p bool_type) c.requires.over c.well_typed.ensures.conclusion in
     rw not record { typed = applied_typed no_items bool_type bool_type (fixed (codes "~") negation_type) p refl typed }
 
-pub eqf_intro-requires : goal.eqf_intro-requires
-eqf_intro-requires c =
+pub eqf_intro-made-requires : goal.eqf_intro-made-requires
+eqf_intro-made-requires c =
     let p = concl_of c.args.p.now in
     let not : nameless [] c.in_ok-not.not ≡ negation p = ap (nameless []) c.in_ok-not.ensures.is ∙ ap negation c.concl.ensures.concl in
     let own : c.in_ok-own.own ≡ theorem_under (negation p) (negation p) = c.in_ok-own.ensures ∙ (λ i. theorem_under (not i) (not i)) in
@@ -31,5 +31,5 @@ returns c =
     let p = concl_of c.args.p.now in
     let not : nameless [] c.in_ok-not.not ≡ negation p = ap (nameless []) c.in_ok-not.ensures.is ∙ ap negation c.concl.ensures.concl in
     let own : c.in_ok-own.own ≡ theorem_under (negation p) (negation p) = c.in_ok-own.ensures ∙ (λ i. theorem_under (not i) (not i)) in
-    became c.eqf_intro.result (theorem_on c.in_ok-own.own.basis (false_of c.in_ok-own.own.sequent)) (theorem_under (negation p) (equivalence p falsity)) c.eqf_intro.ensures
+    became c.eqf_intro-made.result (theorem_on c.in_ok-own.own.basis (false_of c.in_ok-own.own.sequent)) (theorem_under (negation p) (equivalence p falsity)) c.eqf_intro-made.ensures
     (λ i. theorem_on (own i).basis (false_of (own i).sequent))

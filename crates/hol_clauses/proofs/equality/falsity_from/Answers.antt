@@ -16,8 +16,8 @@ pub assumed_conclusion-requires : goal.assumed_conclusion-requires
 assumed_conclusion-requires c =
     record { over = c.requires.over }
 
-pub eq_mp-requires : goal.eq_mp-requires
-eq_mp-requires c =
+pub eq_mp-made-requires : goal.eq_mp-made-requires
+eq_mp-made-requires c =
     let p = concl_of c.args.p.now in
     let hs = c.args.p.now.sequent.hyps in
     let e = equivalence p falsity in
@@ -33,5 +33,5 @@ returns c =
     let hs = c.args.p.now.sequent.hyps in
     let e = equivalence p falsity in
     let all : c.in_ok-all.all ≡ theorem_under e e = c.in_ok-all.ensures ∙ (λ i. theorem_under (c.requires.is i) (c.requires.is i)) in
-    became c.eq_mp.result (theorem_on c.in_ok-all.all.basis (concluded c.in_ok-all.all.sequent c.args.p.now.sequent)) (theorem_over no_items (set.union (only_hyp (concl_of c.args.equal.now)) hs) falsity) c.eq_mp.ensures
+    became c.eq_mp-made.result (theorem_on c.in_ok-all.all.basis (concluded c.in_ok-all.all.sequent c.args.p.now.sequent)) (theorem_over no_items (set.union (only_hyp (concl_of c.args.equal.now)) hs) falsity) c.eq_mp-made.ensures
     ((λ i. theorem_on (all i).basis (concluded (all i).sequent c.args.p.now.sequent)) ∙ (λ i. theorem_over no_items (set.union (only_hyp (sym c.requires.is i)) hs) falsity))

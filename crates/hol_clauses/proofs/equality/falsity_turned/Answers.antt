@@ -14,13 +14,13 @@ pub false_if_denied-requires : goal.false_if_denied-requires
 false_if_denied-requires c =
     record { over = c.requires.over }
 
-pub sym-requires : goal.sym-requires
-sym-requires c =
+pub sym-made-requires : goal.sym-made-requires
+sym-made-requires c =
     let p = concl_of c.args.p.now in
     record { applies = rw c.in_ok-equal.ensures (sym_yes (only_hyp (negation p)) bool_type p falsity) }
 
-pub turned-requires : goal.turned-requires
-turned-requires c =
+pub turned-made-requires : goal.turned-made-requires
+turned-made-requires c =
     let p = concl_of c.args.p.now in
     let back : c.in_ok-back.back ≡ theorem_under (negation p) (equivalence falsity p) = c.in_ok-back.ensures ∙ (λ i. theorem_on (c.in_ok-equal.ensures i).basis (symmetric (c.in_ok-equal.ensures i).sequent)) in
     rw back record { over = refl; is = refl }
@@ -29,5 +29,5 @@ pub returns : goal.returns
 returns c =
     let p = concl_of c.args.p.now in
     let back : c.in_ok-back.back ≡ theorem_under (negation p) (equivalence falsity p) = c.in_ok-back.ensures ∙ (λ i. theorem_on (c.in_ok-equal.ensures i).basis (symmetric (c.in_ok-equal.ensures i).sequent)) in
-    became c.turned.result (theorem_of (equivalence (concl_of c.in_ok-back.back) (equivalence (rhs (concl_of c.in_ok-back.back)) (lhs (concl_of c.in_ok-back.back))))) (theorem_of (equivalence (equivalence falsity p) (equivalence p falsity))) c.turned.ensures
+    became c.turned-made.result (theorem_of (equivalence (concl_of c.in_ok-back.back) (equivalence (rhs (concl_of c.in_ok-back.back)) (lhs (concl_of c.in_ok-back.back))))) (theorem_of (equivalence (equivalence falsity p) (equivalence p falsity))) c.turned-made.ensures
     (λ i. theorem_of (equivalence (concl_of (back i)) (equivalence (rhs (concl_of (back i))) (lhs (concl_of (back i))))))

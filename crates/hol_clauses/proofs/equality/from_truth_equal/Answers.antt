@@ -16,8 +16,8 @@ pub assumed_conclusion-requires : goal.assumed_conclusion-requires
 assumed_conclusion-requires c =
     record { over = c.requires.over }
 
-pub eq_mp-requires : goal.eq_mp-requires
-eq_mp-requires c =
+pub eq_mp-made-requires : goal.eq_mp-made-requires
+eq_mp-made-requires c =
     let e = concl_of c.args.equal.now in
     let p = rhs e in
     let d = equivalence truth p in
@@ -33,5 +33,5 @@ returns c =
     let p = rhs e in
     let d = equivalence truth p in
     let all : c.in_ok-all.all ≡ theorem_under d d = c.in_ok-all.ensures ∙ (λ i. theorem_under (c.requires.is i) (c.requires.is i)) in
-    became c.eq_mp.result (theorem_on c.in_ok-all.all.basis (concluded c.in_ok-all.all.sequent c.in_ok-holds.holds.sequent)) (theorem_under e p) c.eq_mp.ensures
+    became c.eq_mp-made.result (theorem_on c.in_ok-all.all.basis (concluded c.in_ok-all.all.sequent c.in_ok-holds.holds.sequent)) (theorem_under e p) c.eq_mp-made.ensures
     ((λ i. theorem_on (all i).basis (concluded (all i).sequent (c.in_ok-holds.ensures i).sequent)) ∙ ap (λ (hs : Hyps). theorem_over no_items hs p) (none_right (only_hyp d)) ∙ (λ i. theorem_under (sym c.requires.is i) p))

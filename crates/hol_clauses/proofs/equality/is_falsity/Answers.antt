@@ -20,8 +20,8 @@ denied_if_false-requires c =
     let equal : c.in_ok-equal.equal ≡ theorem_under (negation p) e = c.in_ok-equal.ensures in
     rw equal record { over = refl; is = refl; own = c.requires }
 
-pub equivalent-requires : goal.equivalent-requires
-equivalent-requires c =
+pub equivalent-made-requires : goal.equivalent-made-requires
+equivalent-made-requires c =
     let p = concl_of c.args.p.now in
     let hs = c.args.p.now.sequent.hyps in
     let e = equivalence p falsity in
@@ -36,5 +36,5 @@ returns c =
     let e = equivalence p falsity in
     let equal : c.in_ok-equal.equal ≡ theorem_under (negation p) e = c.in_ok-equal.ensures in
     let not : c.in_ok-not.not ≡ theorem_over no_items (set.remove (set.union (only_hyp e) hs) (strip p)) (negation p) = c.in_ok-not.ensures ∙ (λ i. theorem_over no_items (set.remove (set.union (only_hyp (concl_of (equal i))) hs) (strip p)) (negation p)) in
-    became c.equivalent.result (theorem_of (equivalence (concl_of c.in_ok-equal.equal) (concl_of c.in_ok-not.not))) (theorem_of (equivalence e (negation p))) c.equivalent.ensures
+    became c.equivalent-made.result (theorem_of (equivalence (concl_of c.in_ok-equal.equal) (concl_of c.in_ok-not.not))) (theorem_of (equivalence e (negation p))) c.equivalent-made.ensures
     (λ i. theorem_of (equivalence (concl_of (equal i)) (concl_of (not i))))

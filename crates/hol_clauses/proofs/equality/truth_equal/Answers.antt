@@ -13,8 +13,8 @@ use Rattle.hol_clauses.proofs.equality.truth_equal.Goals as goal
 pub eqt_intro-requires : goal.eqt_intro-requires
 eqt_intro-requires c = c.requires.over
 
-pub sym-requires : goal.sym-requires
-sym-requires c =
+pub sym-made-requires : goal.sym-made-requires
+sym-made-requires c =
     let p = concl_of c.args.p.now in
     let hs = c.args.p.now.sequent.hyps in
     let same : c.in_ok-same.same ≡ theorem_over no_items hs (equivalence p truth) = c.in_ok-same.ensures ∙ (λ i. theorem_on (c.requires.over i) (eqt_intro_of c.args.p.now.sequent)) in
@@ -25,5 +25,5 @@ returns c =
     let p = concl_of c.args.p.now in
     let hs = c.args.p.now.sequent.hyps in
     let same : c.in_ok-same.same ≡ theorem_over no_items hs (equivalence p truth) = c.in_ok-same.ensures ∙ (λ i. theorem_on (c.requires.over i) (eqt_intro_of c.args.p.now.sequent)) in
-    became c.sym.result (theorem_on c.in_ok-same.same.basis (symmetric c.in_ok-same.same.sequent)) (theorem_over no_items hs (equivalence truth p)) c.sym.ensures
+    became c.sym-made.result (theorem_on c.in_ok-same.same.basis (symmetric c.in_ok-same.same.sequent)) (theorem_over no_items hs (equivalence truth p)) c.sym-made.ensures
     (λ i. theorem_on (same i).basis (symmetric (same i).sequent))

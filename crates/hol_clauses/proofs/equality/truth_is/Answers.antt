@@ -15,8 +15,8 @@ pub from_truth_equal-requires : goal.from_truth_equal-requires
 from_truth_equal-requires c =
     rw c.in_ok-back.ensures record { over = refl; is = refl }
 
-pub equivalent-requires : goal.equivalent-requires
-equivalent-requires c =
+pub equivalent-made-requires : goal.equivalent-made-requires
+equivalent-made-requires c =
     let p = concl_of c.args.p.now in
     let e = equivalence truth p in
     let own : c.in_ok-own.own ≡ theorem_under e p = c.in_ok-own.ensures ∙ (λ i. theorem_under (concl_of (c.in_ok-back.ensures i)) (rhs (concl_of (c.in_ok-back.ensures i)))) in
@@ -27,5 +27,5 @@ returns c =
     let p = concl_of c.args.p.now in
     let e = equivalence truth p in
     let own : c.in_ok-own.own ≡ theorem_under e p = c.in_ok-own.ensures ∙ (λ i. theorem_under (concl_of (c.in_ok-back.ensures i)) (rhs (concl_of (c.in_ok-back.ensures i)))) in
-    became c.equivalent.result (theorem_of (equivalence (concl_of c.in_ok-back.back) (concl_of c.in_ok-own.own))) (theorem_of (equivalence e p)) c.equivalent.ensures
+    became c.equivalent-made.result (theorem_of (equivalence (concl_of c.in_ok-back.back) (concl_of c.in_ok-own.own))) (theorem_of (equivalence e p)) c.equivalent-made.ensures
     (λ i. theorem_of (equivalence (concl_of (c.in_ok-back.ensures i)) (concl_of (own i))))

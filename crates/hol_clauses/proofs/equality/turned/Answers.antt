@@ -15,8 +15,8 @@ pub assumed_turned-requires-2 : goal.assumed_turned-requires-2
 assumed_turned-requires-2 c =
     rw c.in_ok-back.ensures record { over = refl; is = refl }
 
-pub equivalent-requires : goal.equivalent-requires
-equivalent-requires c =
+pub equivalent-made-requires : goal.equivalent-made-requires
+equivalent-made-requires c =
     let k = concl_of c.args.equal.now in
     let p = lhs k in
     let q = rhs k in
@@ -35,5 +35,5 @@ returns c =
     let f = equivalence q p in
     let back : c.in_ok-back.back ≡ theorem_under e f = c.in_ok-back.ensures ∙ (λ i. theorem_under (c.requires.is i) f) in
     let forward : c.in_ok-forward.forward ≡ theorem_under f e = c.in_ok-forward.ensures ∙ (λ i. theorem_under (concl_of (back i)) (equivalence (rhs (concl_of (back i))) (lhs (concl_of (back i))))) in
-    became c.equivalent.result (theorem_of (equivalence (concl_of c.in_ok-forward.forward) (concl_of c.in_ok-back.back))) (theorem_of (equivalence k f)) c.equivalent.ensures
+    became c.equivalent-made.result (theorem_of (equivalence (concl_of c.in_ok-forward.forward) (concl_of c.in_ok-back.back))) (theorem_of (equivalence k f)) c.equivalent-made.ensures
     ((λ i. theorem_of (equivalence (concl_of (forward i)) (concl_of (back i)))) ∙ (λ i. theorem_of (equivalence (sym c.requires.is i) f)))

@@ -13,12 +13,12 @@ pub falsity_is-requires : goal.falsity_is-requires
 falsity_is-requires c =
     record { over = c.requires.over; is = c.in_ok-right.ensures }
 
-pub both-requires : goal.both-requires
-both-requires c =
+pub both-made-requires : goal.both-made-requires
+both-made-requires c =
     rw (c.in_ok-left.ensures, c.in_ok-right.ensures) record { first = refl; second = refl }
 
 pub returns : goal.returns
 returns c =
     let p = concl_of c.args.p.now in
-    became c.both.result (theorem_of (conjunction (concl_of c.in_ok-left.left) (concl_of c.in_ok-right.right))) (theorem_of (conjunction (equivalence (equivalence falsity p) (negation p)) (equivalence (equivalence p falsity) (negation p)))) c.both.ensures
+    became c.both-made.result (theorem_of (conjunction (concl_of c.in_ok-left.left) (concl_of c.in_ok-right.right))) (theorem_of (conjunction (equivalence (equivalence falsity p) (negation p)) (equivalence (equivalence p falsity) (negation p)))) c.both-made.ensures
     (λ i. theorem_of (conjunction (concl_of (c.in_ok-left.ensures i)) (concl_of (c.in_ok-right.ensures i))))

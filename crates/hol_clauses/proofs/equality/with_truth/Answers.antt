@@ -13,13 +13,13 @@ pub is_truth_joined-requires : goal.is_truth_joined-requires
 is_truth_joined-requires c =
     record { over = c.requires.own.over; is = c.in_ok-first.ensures; rest = c.requires.rest }
 
-pub both-requires : goal.both-requires
-both-requires c =
+pub both-made-requires : goal.both-made-requires
+both-made-requires c =
     rw (c.in_ok-first.ensures, c.in_ok-tail.ensures) record { first = refl; second = refl }
 
 pub returns : goal.returns
 returns c =
     let p = concl_of c.args.p.now in
     let r = concl_of c.args.rest.now in
-    became c.both.result (theorem_of (conjunction (concl_of c.in_ok-first.first) (concl_of c.in_ok-tail.tail))) (theorem_of (conjunction (equivalence (equivalence truth p) p) (conjunction (equivalence (equivalence p truth) p) r))) c.both.ensures
+    became c.both-made.result (theorem_of (conjunction (concl_of c.in_ok-first.first) (concl_of c.in_ok-tail.tail))) (theorem_of (conjunction (equivalence (equivalence truth p) p) (conjunction (equivalence (equivalence p truth) p) r))) c.both-made.ensures
     (λ i. theorem_of (conjunction (concl_of (c.in_ok-first.ensures i)) (concl_of (c.in_ok-tail.ensures i))))

@@ -17,8 +17,8 @@ pub disch-requires : goal.disch-requires
 disch-requires c =
     rw (c.requires.implied.over, c.concl.ensures.concl) record { over = refl; typed = subst (λ (s : Items). HasType s (concl_of c.args.p.now) bool_type) c.requires.over c.well_typed.ensures.conclusion }
 
-pub holds-requires : goal.holds-requires
-holds-requires c =
+pub holds-made-requires : goal.holds-made-requires
+holds-made-requires c =
     let p = concl_of c.args.p.now in
     let q = concl_of c.args.q.now in
     let own : nameless [] c.concl.result.now ≡ p = c.concl.ensures.concl in
@@ -31,4 +31,4 @@ returns c =
     let q = concl_of c.args.q.now in
     let own : nameless [] c.concl.result.now ≡ p = c.concl.ensures.concl in
     let given : c.in_ok-own.own ≡ theorem_of (implication p q) = c.in_ok-own.ensures ∙ (λ i. theorem_over (c.requires.implied.over i) (set.remove c.args.q.now.sequent.hyps (strip (own i))) (implication (own i) q)) ∙ ap (λ (hs : Hyps). theorem_over no_items hs (implication p q)) c.requires.implied.alone in
-    became c.holds.result (theorem_of (equivalence (concl_of c.in_ok-own.own) truth)) (theorem_of (equivalence (implication p q) truth)) c.holds.ensures (rw given refl)
+    became c.holds-made.result (theorem_of (equivalence (concl_of c.in_ok-own.own) truth)) (theorem_of (equivalence (implication p q) truth)) c.holds-made.ensures (rw given refl)

@@ -14,8 +14,8 @@ pub assumed_conclusion-requires : goal.assumed_conclusion-requires
 assumed_conclusion-requires c =
     record { over = c.requires.over }
 
-pub mp-requires : goal.mp-requires
-mp-requires c =
+pub mp-made-requires : goal.mp-made-requires
+mp-made-requires c =
     let e = concl_of c.args.implies.now in
     let p = rhs e in
     let d = implication truth p in
@@ -33,5 +33,5 @@ returns c =
     let p = rhs e in
     let d = implication truth p in
     let all : c.in_ok-all.all ≡ theorem_under d d = c.in_ok-all.ensures ∙ (λ i. theorem_under (c.requires.is i) (c.requires.is i)) in
-    became c.mp.result (theorem_on c.in_ok-all.all.basis (concluded c.in_ok-all.all.sequent c.args.holds.now.sequent)) (theorem_under e p) c.mp.ensures
+    became c.mp-made.result (theorem_on c.in_ok-all.all.basis (concluded c.in_ok-all.all.sequent c.args.holds.now.sequent)) (theorem_under e p) c.mp-made.ensures
     ((λ i. theorem_on (all i).basis (concluded (all i).sequent (c.requires.holds i).sequent)) ∙ ap (λ (hs : Hyps). theorem_over no_items hs p) (none_right (only_hyp d)) ∙ (λ i. theorem_under (sym c.requires.is i) p))

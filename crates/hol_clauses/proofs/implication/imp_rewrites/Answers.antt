@@ -9,16 +9,16 @@ pub implies_falsity-requires : goal.implies_falsity-requires
 implies_falsity-requires c =
     record { over = c.requires.over }
 
-pub with_itself-requires : goal.with_itself-requires
-with_itself-requires c =
+pub with_itself-made-requires : goal.with_itself-made-requires
+with_itself-made-requires c =
     record { own = c.requires; rest = rw c.in_ok-last.ensures refl }
 
-pub with_truth-requires : goal.with_truth-requires
-with_truth-requires c =
+pub with_truth-made-requires : goal.with_truth-made-requires
+with_truth-made-requires c =
     record { own = c.requires; rest = rw c.in_ok-rest.ensures refl }
 
 pub returns : goal.returns
 returns c =
     let p = concl_of c.args.p.now in
-    became c.with_truth.result (theorem_of (conjunction (equivalence (implication truth p) p) (conjunction (equivalence (implication p truth) truth) (concl_of c.in_ok-rest.rest)))) (theorem_of (imp_rewrites p)) c.with_truth.ensures
+    became c.with_truth-made.result (theorem_of (conjunction (equivalence (implication truth p) p) (conjunction (equivalence (implication p truth) truth) (concl_of c.in_ok-rest.rest)))) (theorem_of (imp_rewrites p)) c.with_truth-made.ensures
     (rw (c.in_ok-rest.ensures, c.in_ok-last.ensures) refl)

@@ -10,12 +10,12 @@ use Rattle.hol_clauses.specs.Deduction.{concl_of}
 use Rattle.hol_clauses.specs.Statements.{theorem_of}
 use Rattle.hol_clauses.proofs.implication.implies_falsity.Goals as goal
 
-pub sym-requires : goal.sym-requires
-sym-requires c =
+pub sym-made-requires : goal.sym-made-requires
+sym-made-requires c =
     let p = concl_of c.args.p.now in
     record { applies = rw c.in_ok-own.ensures (sym_yes no_hyps bool_type (negation p) (implication p falsity)) }
 
 pub returns : goal.returns
 returns c =
     let p = concl_of c.args.p.now in
-    became c.sym.result (theorem_on c.in_ok-own.own.basis (symmetric c.in_ok-own.own.sequent)) (theorem_of (equivalence (implication p falsity) (negation p))) c.sym.ensures (rw c.in_ok-own.ensures refl)
+    became c.sym-made.result (theorem_on c.in_ok-own.own.basis (symmetric c.in_ok-own.own.sequent)) (theorem_of (equivalence (implication p falsity) (negation p))) c.sym-made.ensures (rw c.in_ok-own.ensures refl)

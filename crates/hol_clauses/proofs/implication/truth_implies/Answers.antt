@@ -25,8 +25,8 @@ from_truth_implies-requires c =
     let back : c.in_ok-back.back ≡ theorem_over no_items (set.remove c.args.p.now.sequent.hyps (strip truth)) d = c.in_ok-back.ensures ∙ (λ i. theorem_over (c.requires.own.over i) (set.remove c.args.p.now.sequent.hyps (strip (t i))) (implication (t i) p)) in
     rw back record { over = refl; is = refl; holds = c.requires.holds }
 
-pub equivalent-requires : goal.equivalent-requires
-equivalent-requires c =
+pub equivalent-made-requires : goal.equivalent-made-requires
+equivalent-made-requires c =
     let p = concl_of c.args.p.now in
     let d = implication truth p in
     let t : nameless [] c.concl.result.now ≡ truth = c.concl.ensures.concl ∙ ap concl_of c.requires.holds in
@@ -41,5 +41,5 @@ returns c =
     let t : nameless [] c.concl.result.now ≡ truth = c.concl.ensures.concl ∙ ap concl_of c.requires.holds in
     let back : c.in_ok-back.back ≡ theorem_over no_items (set.remove c.args.p.now.sequent.hyps (strip truth)) d = c.in_ok-back.ensures ∙ (λ i. theorem_over (c.requires.own.over i) (set.remove c.args.p.now.sequent.hyps (strip (t i))) (implication (t i) p)) in
     let own : c.in_ok-own.own ≡ theorem_under d p = c.in_ok-own.ensures ∙ (λ i. theorem_under (concl_of (back i)) (rhs (concl_of (back i)))) in
-    became c.equivalent.result (theorem_of (equivalence (concl_of c.in_ok-back.back) (concl_of c.in_ok-own.own))) (theorem_of (equivalence d p)) c.equivalent.ensures
+    became c.equivalent-made.result (theorem_of (equivalence (concl_of c.in_ok-back.back) (concl_of c.in_ok-own.own))) (theorem_of (equivalence d p)) c.equivalent-made.ensures
     (λ i. theorem_of (equivalence (concl_of (back i)) (concl_of (own i))))

@@ -9,13 +9,13 @@ pub truth_implies-requires : goal.truth_implies-requires
 truth_implies-requires c =
     record { holds = c.requires.holds; own = c.requires.own }
 
-pub both-requires : goal.both-requires
-both-requires c =
+pub both-made-requires : goal.both-made-requires
+both-made-requires c =
     record { first = rw c.in_ok-first.ensures refl; second = c.requires.rest }
 
 pub returns : goal.returns
 returns c =
     let p = concl_of c.args.p.now in
     let r = concl_of c.args.rest.now in
-    became c.both.result (theorem_of (conjunction (concl_of c.in_ok-first.first) r)) (theorem_of (conjunction (equivalence (implication truth p) p) r)) c.both.ensures
+    became c.both-made.result (theorem_of (conjunction (concl_of c.in_ok-first.first) r)) (theorem_of (conjunction (equivalence (implication truth p) p) r)) c.both-made.ensures
     (λ i. theorem_of (conjunction (concl_of (c.in_ok-first.ensures i)) r))

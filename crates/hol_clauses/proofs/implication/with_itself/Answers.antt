@@ -9,13 +9,13 @@ pub always_joined-requires : goal.always_joined-requires
 always_joined-requires c =
     record { over = c.requires.own.over; implied = c.requires.own; rest = c.requires.rest }
 
-pub with_falsity-requires : goal.with_falsity-requires
-with_falsity-requires c =
+pub with_falsity-made-requires : goal.with_falsity-made-requires
+with_falsity-made-requires c =
     record { over = c.requires.own.over; rest = rw c.in_ok-tail.ensures refl }
 
 pub returns : goal.returns
 returns c =
     let p = concl_of c.args.p.now in
     let r = concl_of c.args.rest.now in
-    became c.with_falsity.result (theorem_of (conjunction (equivalence (implication falsity p) truth) (concl_of c.in_ok-tail.tail))) (theorem_of (conjunction (equivalence (implication falsity p) truth) (conjunction (equivalence (implication p p) truth) r))) c.with_falsity.ensures
+    became c.with_falsity-made.result (theorem_of (conjunction (equivalence (implication falsity p) truth) (concl_of c.in_ok-tail.tail))) (theorem_of (conjunction (equivalence (implication falsity p) truth) (conjunction (equivalence (implication p p) truth) r))) c.with_falsity-made.ensures
     (λ i. theorem_of (conjunction (equivalence (implication falsity p) truth) (concl_of (c.in_ok-tail.ensures i))))

@@ -10,13 +10,13 @@ pub always_joined-requires : goal.always_joined-requires
 always_joined-requires c =
     record { over = c.requires.own.over; implied = rw c.in_ok-holds.ensures (of_from (concl_of c.args.p.now) truth); rest = c.requires.rest }
 
-pub truth_implies_joined-requires : goal.truth_implies_joined-requires
-truth_implies_joined-requires c =
+pub truth_implies_joined-made-requires : goal.truth_implies_joined-made-requires
+truth_implies_joined-made-requires c =
     record { holds = c.in_ok-holds.ensures; own = c.requires.own; rest = rw c.in_ok-tail.ensures refl }
 
 pub returns : goal.returns
 returns c =
     let p = concl_of c.args.p.now in
     let r = concl_of c.args.rest.now in
-    became c.truth_implies_joined.result (theorem_of (conjunction (equivalence (implication truth p) p) (concl_of c.in_ok-tail.tail))) (theorem_of (conjunction (equivalence (implication truth p) p) (conjunction (equivalence (implication p truth) truth) r))) c.truth_implies_joined.ensures
+    became c.truth_implies_joined-made.result (theorem_of (conjunction (equivalence (implication truth p) p) (concl_of c.in_ok-tail.tail))) (theorem_of (conjunction (equivalence (implication truth p) p) (conjunction (equivalence (implication p truth) truth) r))) c.truth_implies_joined-made.ensures
     (rw (c.in_ok-tail.ensures, c.in_ok-holds.ensures) refl)

@@ -7,12 +7,12 @@ use Rattle.hol_derived.specs.Applied.{generalized}
 use Rattle.hol_derived.proofs.Disjunctions.{free_in_none as none_free}
 use Rattle.hol_clauses.proofs.rewrites.for_truth_values.Goals as goal
 
-pub generalize-requires : goal.generalize-requires
-generalize-requires c =
+pub generalize-made-requires : goal.generalize-made-requires
+generalize-made-requires c =
     rw (c.requires, c.in_ok-t.ensures) record { over = refl; stands = refl; absent = none_free (boolean (codes "t")) }
 
 pub returns : goal.returns
 returns c =
     let p = c.args.p.now in
-    became c.generalize.result (theorem_on p.basis (generalized c.in_ok-t.t p.sequent)) (theorem_on no_items (generalized (boolean (codes "t")) p.sequent)) c.generalize.ensures
+    became c.generalize-made.result (theorem_on p.basis (generalized c.in_ok-t.t p.sequent)) (theorem_on no_items (generalized (boolean (codes "t")) p.sequent)) c.generalize-made.ensures
     (λ i. theorem_on (c.requires i).basis (generalized (c.in_ok-t.ensures i) p.sequent))

@@ -12,11 +12,11 @@ pub itself-requires : goal.itself-requires
 itself-requires c =
     c.requires
 
-pub eqt_intro-requires : goal.eqt_intro-requires
-eqt_intro-requires c = ap (λ (th : Theorem). th.basis) c.in_ok-same.ensures
+pub eqt_intro-made-requires : goal.eqt_intro-made-requires
+eqt_intro-made-requires c = ap (λ (th : Theorem). th.basis) c.in_ok-same.ensures
 
 pub returns : goal.returns
 returns c =
     let v = c.args.v.now in
-    became c.eqt_intro.result (theorem_on c.in_ok-same.same.basis (eqt_intro_of c.in_ok-same.same.sequent)) (theorem_of (equivalence (equation v.1 (free v) (free v)) truth)) c.eqt_intro.ensures
+    became c.eqt_intro-made.result (theorem_on c.in_ok-same.same.basis (eqt_intro_of c.in_ok-same.same.sequent)) (theorem_of (equivalence (equation v.1 (free v) (free v)) truth)) c.eqt_intro-made.ensures
     (λ i. theorem_on (c.in_ok-same.ensures i).basis (eqt_intro_of (c.in_ok-same.ensures i).sequent))

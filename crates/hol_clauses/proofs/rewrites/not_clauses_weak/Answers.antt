@@ -7,5 +7,5 @@ use Rattle.hol_clauses.proofs.rewrites.not_clauses_weak.Goals as goal
 
 pub returns : goal.returns
 returns c =
-    became c.both.result (theorem_of (conjunction (concl_of c.in_ok-first.first) (concl_of c.in_ok-second.second))) (statements.stated statements.not_clauses_weak) c.both.ensures
+    became c.both-made.result (theorem_of (conjunction (concl_of c.in_ok-first.first) (concl_of c.in_ok-second.second))) (statements.stated statements.not_clauses_weak) c.both-made.ensures
     (λ i. theorem_of (conjunction (concl_of (c.in_ok-first.ensures i)) (concl_of (c.in_ok-second.ensures i))))

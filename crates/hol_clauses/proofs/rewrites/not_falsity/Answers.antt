@@ -11,11 +11,11 @@ pub always-requires : goal.always-requires
 always-requires c =
     rw c.in_ok-own.ensures record { over = refl; implied = under_from falsity falsity }
 
-pub denial-requires : goal.denial-requires
-denial-requires c =
+pub denial-made-requires : goal.denial-made-requires
+denial-made-requires c =
     rw (c.in_ok-implied.ensures, c.in_ok-own.ensures) record { over = refl; is = refl }
 
 pub returns : goal.returns
 returns c =
-    became c.denial.result (theorem_of (equivalence (negation (concl_of c.in_ok-own.own)) (rhs (concl_of c.in_ok-implied.implied)))) (theorem_of (equivalence (negation falsity) truth)) c.denial.ensures
+    became c.denial-made.result (theorem_of (equivalence (negation (concl_of c.in_ok-own.own)) (rhs (concl_of c.in_ok-implied.implied)))) (theorem_of (equivalence (negation falsity) truth)) c.denial-made.ensures
     (rw (c.in_ok-implied.ensures, c.in_ok-own.ensures) refl)

@@ -10,11 +10,11 @@ pub truth_implies_falsity-requires : goal.truth_implies_falsity-requires
 truth_implies_falsity-requires c =
     c.in_ok-holds.ensures
 
-pub denial-requires : goal.denial-requires
-denial-requires c =
+pub denial-made-requires : goal.denial-made-requires
+denial-made-requires c =
     rw (c.in_ok-implied.ensures, c.in_ok-holds.ensures) record { over = refl; is = refl }
 
 pub returns : goal.returns
 returns c =
-    became c.denial.result (theorem_of (equivalence (negation (concl_of c.in_ok-holds.holds)) (rhs (concl_of c.in_ok-implied.implied)))) (theorem_of (equivalence (negation truth) falsity)) c.denial.ensures
+    became c.denial-made.result (theorem_of (equivalence (negation (concl_of c.in_ok-holds.holds)) (rhs (concl_of c.in_ok-implied.implied)))) (theorem_of (equivalence (negation truth) falsity)) c.denial-made.ensures
     (rw (c.in_ok-implied.ensures, c.in_ok-holds.ensures) refl)

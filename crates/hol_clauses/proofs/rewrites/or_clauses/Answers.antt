@@ -11,17 +11,17 @@ use Rattle.hol_clauses.specs.Statements as statements
 use Rattle.hol_clauses.proofs.From.{under_from}
 use Rattle.hol_clauses.proofs.rewrites.or_clauses.Goals as goal
 
-pub disj_rewrites-requires : goal.disj_rewrites-requires
-disj_rewrites-requires c =
+pub disj_rewrites-made-requires : goal.disj_rewrites-made-requires
+disj_rewrites-made-requires c =
     rw c.in_ok-own.ensures (under_from (free (boolean (codes "t"))) (free (boolean (codes "t"))))
 
-pub for_truth_values-requires : goal.for_truth_values-requires
-for_truth_values-requires c =
+pub for_truth_values-made-requires : goal.for_truth_values-made-requires
+for_truth_values-made-requires c =
     let all : c.in_ok-all.all ≡ theorem_of (disj_rewrites (free (boolean (codes "t")))) = c.in_ok-all.ensures ∙ (λ i. theorem_of (disj_rewrites (concl_of (c.in_ok-own.ensures i)))) in
     rw all refl
 
 pub returns : goal.returns
 returns c =
     let all : c.in_ok-all.all ≡ theorem_of (disj_rewrites (free (boolean (codes "t")))) = c.in_ok-all.ensures ∙ (λ i. theorem_of (disj_rewrites (concl_of (c.in_ok-own.ensures i)))) in
-    became c.for_truth_values.result (theorem_on no_items (generalized (boolean (codes "t")) c.in_ok-all.all.sequent)) (statements.stated statements.or_clauses) c.for_truth_values.ensures
+    became c.for_truth_values-made.result (theorem_on no_items (generalized (boolean (codes "t")) c.in_ok-all.all.sequent)) (statements.stated statements.or_clauses) c.for_truth_values-made.ensures
     (λ i. theorem_on no_items (generalized (boolean (codes "t")) (all i).sequent))

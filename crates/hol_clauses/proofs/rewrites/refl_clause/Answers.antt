@@ -17,13 +17,13 @@ pub itself_holds-requires : goal.itself_holds-requires
 itself_holds-requires c =
     rw c.in_ok-x.ensures refl
 
-pub generalize-requires : goal.generalize-requires
-generalize-requires c =
+pub generalize-made-requires : goal.generalize-made-requires
+generalize-made-requires c =
     rw (c.in_ok-holds.ensures, c.in_ok-x.ensures) record { over = refl; stands = refl; absent = none_free (element (codes "x")) }
 
 pub returns : goal.returns
 returns c =
     let x = element (codes "x") in
     let holds : c.in_ok-holds.holds ≡ theorem_of (equivalence (equation x.1 (free x) (free x)) truth) = c.in_ok-holds.ensures ∙ ap (λ (v : List ℕ × TypeTree). theorem_of (equivalence (equation v.1 (free v) (free v)) truth)) c.in_ok-x.ensures in
-    became c.generalize.result (theorem_on c.in_ok-holds.holds.basis (generalized c.in_ok-x.x c.in_ok-holds.holds.sequent)) (statements.stated statements.refl_clause) c.generalize.ensures
+    became c.generalize-made.result (theorem_on c.in_ok-holds.holds.basis (generalized c.in_ok-x.x c.in_ok-holds.holds.sequent)) (statements.stated statements.refl_clause) c.generalize-made.ensures
     (λ i. theorem_on (holds i).basis (generalized (c.in_ok-x.ensures i) (holds i).sequent))

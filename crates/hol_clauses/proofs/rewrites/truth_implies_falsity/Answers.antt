@@ -6,12 +6,12 @@ use Rattle.hol_clauses.specs.Statements.{theorem_of}
 use Rattle.hol_clauses.proofs.From.{under_from}
 use Rattle.hol_clauses.proofs.rewrites.truth_implies_falsity.Goals as goal
 
-pub truth_implies-requires : goal.truth_implies-requires
-truth_implies-requires c =
+pub truth_implies-made-requires : goal.truth_implies-made-requires
+truth_implies-made-requires c =
     record { holds = c.requires; own = rw c.in_ok-own.ensures (under_from falsity falsity) }
 
 pub returns : goal.returns
 returns c =
     let p = concl_of c.in_ok-own.own in
-    became c.truth_implies.result (theorem_of (equivalence (implication truth p) p)) (theorem_of (equivalence (implication truth falsity) falsity)) c.truth_implies.ensures
+    became c.truth_implies-made.result (theorem_of (equivalence (implication truth p) p)) (theorem_of (equivalence (implication truth falsity) falsity)) c.truth_implies-made.ensures
     (rw c.in_ok-own.ensures refl)

@@ -6,7 +6,7 @@ use Rattle.hol_combine.specs.ExprView.{theorem_tac_value}
 use Rattle.hol_combine.specs.Runs.{RunValue, Leaves, Refuses, Stops, TurnLimit, LargeGoal, hand, first_assum}
 use Rattle.hol_combine.specs.RunView.{IsError, refusal_value, using, used_by}
 use Rattle.hol_combine.proofs.Handed.{valid_staying, among_at, first_answers, first_ends}
-use Rattle.hol_combine.proofs.Loops.{refusal_is, refused_left}
+use Rattle.hol_combine.proofs.Ends.{refusal_is, refused_left}
 use Rattle.hol_combine.proofs.theorem_tacs.first_assum.Goals as goal
 
 -- what an assumption answers, as the answer of all: `first_answers` of the loop's place
@@ -57,6 +57,6 @@ returns-clause-answer g c =
     let known = g.T.Tacs.known_of c.args.tacs.now in
     let called = theorem_tac_value c.args.tac.now in
     let whole : RunValue = first_assum known called c.args.goal.now.assumptions c.args.goal.now (used_value c.args.used) in
-    refusal_is known whole (codes "FIRST_ASSUM") (used_value c.loop-p.used) c.refused.result
+    refusal_is whole (codes "FIRST_ASSUM") (used_value c.loop-p.used) c.refused.result
     (first_ends known called c.args.goal.now whole c.assumptions-p-items.result.now c.loop-p.p-index (used_value c.loop-p.used) c.loop-p-test.false c.loop-p.invariant.answer)
     c.refused.ensures

@@ -5,14 +5,13 @@ use Rattle.hol_terms.specs.Nameless.{nameless}
 use Rattle.hol_formulas.specs.Equation.{bool_type}
 use Rattle.hol_terms.specs.Named.{Named, var}
 use Rattle.hol_kernel.specs.Rules.{inst_of}
-use Rattle.hol_equal.proofs.Steps.{unrefused, told}
-use Rattle.hol_kernel.specs.declared.error.Rule.TheVariants.{Inst}
+use Rattle.hol_equal.proofs.Steps.{known, pairs_over}
 use Rattle.std.proofs.Common.{rules}
 use Rattle.hol_derived.proofs.Instances.{member_fits, with_member}
 use Rattle.hol_derived.proofs.lemmas.with_member.Goals as goal
 
-pub unrefused-requires : goal.unrefused-requires
-unrefused-requires c =
+pub inst_typed-requires : goal.inst_typed-requires
+inst_typed-requires c =
     let B = c.args.a.now.basis in
     let s = c.args.a.now.sequent in
     let f = c.args.f.now in
@@ -22,7 +21,7 @@ unrefused-requires c =
     let all : c.deref.result.now ≡ pairs = search rules in
     let image = with_member ty (nameless [] f) (nameless [] t) s in
     let gives : inst_of B c.deref.result.now s ≡ Some image = ap (λ (ps : List (Named × Named)). inst_of B ps s) all ∙ member_fits B ty f t s c.requires.function c.requires.argument in
-    unrefused Inst B (inst_of B c.deref.result.now s) image gives c.inst.result c.inst.ensures.sequent
+    record { typed = pairs_over B c.deref.result.now s image gives }
 
 pub returns : goal.returns
 returns c =
@@ -35,4 +34,4 @@ returns c =
     let all : c.deref.result.now ≡ pairs = search rules in
     let image = with_member ty (nameless [] f) (nameless [] t) s in
     let gives : inst_of B c.deref.result.now s ≡ Some image = ap (λ (ps : List (Named × Named)). inst_of B ps s) all ∙ member_fits B ty f t s c.requires.function c.requires.argument in
-    told Inst B (inst_of B c.deref.result.now s) image gives c.inst.result c.unrefused.result c.inst.ensures.sequent c.unrefused.ensures
+    known B (inst_of B c.deref.result.now s) image gives c.inst_typed.result c.inst_typed.ensures.sequent

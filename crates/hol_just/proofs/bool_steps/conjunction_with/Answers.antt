@@ -3,8 +3,8 @@ use Rattle.hol_just.specs.Reasons.{conjoined}
 use Rattle.hol_just.proofs.Applied.{second_taken, is_first, where_ok}
 use Rattle.hol_just.proofs.bool_steps.conjunction_with.Goals as goal
 
-pub conj-requires : goal.conj-requires
-conj-requires c =
+pub conj-made-requires : goal.conj-made-requires
+conj-made-requires c =
     record {
       one_basis = c.requires.lemmas ∙ sym c.requires.over;
       same_basis = c.requires.over ∙ sym ((is_first c.args.thms.now c.take.new.self c.take.result c.in-Some.right c.take.ensures c.in-Some.is).over);

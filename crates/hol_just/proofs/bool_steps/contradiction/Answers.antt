@@ -4,8 +4,8 @@ use Rattle.hol_derived.specs.Rules.{contr_of}
 use Rattle.hol_just.proofs.Applied.{from_one_taken, is_first, where_ok, one_applies}
 use Rattle.hol_just.proofs.bool_steps.contradiction.Goals as goal
 
-pub contr-requires : goal.contr-requires
-contr-requires c =
+pub contr-made-requires : goal.contr-made-requires
+contr-made-requires c =
     record {
       one_basis = c.requires.lemmas ∙ sym ((is_first c.args.thms.now c.take.new.self c.take.result c.in-Some.falsity c.take.ensures c.in-Some.is).over);
       applies = one_applies (λ basis. contr_of basis (nameless [] c.args.p.now)) c.args.thms.now c.take.new.self c.in-Some.falsity (is_first c.args.thms.now c.take.new.self c.take.result c.in-Some.falsity c.take.ensures c.in-Some.is) c.requires.gives;

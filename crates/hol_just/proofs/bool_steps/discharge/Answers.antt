@@ -4,8 +4,8 @@ use Rattle.hol_derived.specs.Rules.{disch_of}
 use Rattle.hol_just.proofs.Applied.{from_one_taken, is_first, where_ok, one_applies}
 use Rattle.hol_just.proofs.bool_steps.discharge.Goals as goal
 
-pub disch-requires : goal.disch-requires
-disch-requires c =
+pub disch-made-requires : goal.disch-made-requires
+disch-made-requires c =
     record {
       one_basis = c.requires.lemmas ∙ sym ((is_first c.args.thms.now c.take.new.self c.take.result c.in-Some.consequent c.take.ensures c.in-Some.is).over);
       applies = one_applies (λ basis. disch_of basis (nameless [] c.args.p.now)) c.args.thms.now c.take.new.self c.in-Some.consequent (is_first c.args.thms.now c.take.new.self c.take.result c.in-Some.consequent c.take.ensures c.in-Some.is) c.requires.gives;

@@ -5,8 +5,8 @@ use Rattle.hol_just.proofs.Applied.{from_one_taken, is_first, where_ok, one_appl
 use Rattle.hol_derived.proofs.Instances.{over_basis}
 use Rattle.hol_just.proofs.bool_steps.existence.Goals as goal
 
-pub exists-requires : goal.exists-requires
-exists-requires c =
+pub exists-made-requires : goal.exists-made-requires
+exists-made-requires c =
     record {
       one_basis = c.requires.lemmas ∙ sym ((is_first c.args.thms.now c.take.new.self c.take.result c.in-Some.property c.take.ensures c.in-Some.is).over);
       applies = one_applies (λ basis. exists_of basis (nameless [] c.args.e.now) (nameless [] c.args.t.now)) c.args.thms.now c.take.new.self c.in-Some.property (is_first c.args.thms.now c.take.new.self c.take.result c.in-Some.property c.take.ensures c.in-Some.is) c.requires.gives;

@@ -4,8 +4,8 @@ use Rattle.hol_just.specs.Reasons.{left_disjunct}
 use Rattle.hol_just.proofs.Applied.{from_one_taken, is_first, where_ok, one_applies}
 use Rattle.hol_just.proofs.bool_steps.left_disjunct.Goals as goal
 
-pub disj1-requires : goal.disj1-requires
-disj1-requires c =
+pub disj1-made-requires : goal.disj1-made-requires
+disj1-made-requires c =
     record {
       one_basis = c.requires.lemmas ∙ sym ((is_first c.args.thms.now c.take.new.self c.take.result c.in-Some.left c.take.ensures c.in-Some.is).over);
       applies = one_applies (λ basis. left_disjunct basis (nameless [] c.args.q.now)) c.args.thms.now c.take.new.self c.in-Some.left (is_first c.args.thms.now c.take.new.self c.take.result c.in-Some.left c.take.ensures c.in-Some.is) c.requires.gives;

@@ -3,8 +3,8 @@ use Rattle.hol_derived.specs.Rules.{mp_of}
 use Rattle.hol_just.proofs.Applied.{second_taken, second_applies, is_first, where_ok}
 use Rattle.hol_just.proofs.bool_steps.modus_ponens_with.Goals as goal
 
-pub mp-requires : goal.mp-requires
-mp-requires c =
+pub mp-made-requires : goal.mp-made-requires
+mp-made-requires c =
     record {
       one_basis = c.requires.lemmas ∙ sym c.requires.over;
       same_basis = c.requires.over ∙ sym ((is_first c.args.thms.now c.take.new.self c.take.result c.in-Some.premise c.take.ensures c.in-Some.is).over);

@@ -3,8 +3,8 @@ use Rattle.hol_derived.specs.Rules.{undisch_of}
 use Rattle.hol_just.proofs.Applied.{from_one_taken, is_first, where_ok, one_applies}
 use Rattle.hol_just.proofs.bool_steps.undischarge.Goals as goal
 
-pub undisch-requires : goal.undisch-requires
-undisch-requires c =
+pub undisch-made-requires : goal.undisch-made-requires
+undisch-made-requires c =
     record {
       one_basis = c.requires.lemmas ∙ sym ((is_first c.args.thms.now c.take.new.self c.take.result c.in-Some.implication c.take.ensures c.in-Some.is).over);
       applies = one_applies (λ basis. undisch_of) c.args.thms.now c.take.new.self c.in-Some.implication (is_first c.args.thms.now c.take.new.self c.take.result c.in-Some.implication c.take.ensures c.in-Some.is) c.requires.gives;

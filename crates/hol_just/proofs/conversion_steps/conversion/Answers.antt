@@ -4,8 +4,8 @@ use Rattle.hol_just.proofs.Applied.{from_one_taken, is_first, where_ok, one_appl
 use Rattle.hol_derived.proofs.Instances.{over_basis}
 use Rattle.hol_just.proofs.conversion_steps.conversion.Goals as goal
 
-pub converted_back-requires : goal.converted_back-requires
-converted_back-requires c =
+pub converted_back-made-requires : goal.converted_back-made-requires
+converted_back-made-requires c =
     record {
       lemmas = c.requires.lemmas ∙ sym ((is_first c.args.thms.now c.take.new.self c.take.result c.in-Some.converted c.take.ensures c.in-Some.is).over);
       gives = one_applies (λ basis. converted_back basis c.args.trace.now) c.args.thms.now c.take.new.self c.in-Some.converted (is_first c.args.thms.now c.take.new.self c.take.result c.in-Some.converted c.take.ensures c.in-Some.is) c.requires.gives;

@@ -20,8 +20,8 @@ replay-requires-clause-applies c =
     let b = c.args.converted.now.basis in
     subst (λ (d : Items). IsSome (trace_equation d c.args.trace.now)) (sym c.basis.ensures) (equation_some b c.args.converted.now.sequent (trace_equation b c.args.trace.now) c.requires.gives)
 
-pub made_in_equal-requires : goal.made_in_equal-requires
-made_in_equal-requires c =
+pub made_in_equal-turned-requires : goal.made_in_equal-turned-requires
+made_in_equal-turned-requires c =
     let b = c.args.converted.now.basis in
     let is : trace_equation b c.args.trace.now ≡ Some c.in_ok-equation.equation =
     subst (λ (d : Items). trace_equation d c.args.trace.now ≡ Some c.in_ok-equation.equation) c.basis.ensures c.in_ok-equation.ensures.gives in
@@ -37,8 +37,8 @@ eq_mp-requires c =
           ∙ equation_basis c.basis.result.now c.args.trace.now equation c.in_ok-equation.ensures.gives ∙ c.basis.ensures;
     }
 
-pub made_in_kernel-requires : goal.made_in_kernel-requires
-made_in_kernel-requires c =
+pub made_in_kernel-made-requires : goal.made_in_kernel-made-requires
+made_in_kernel-made-requires c =
     let b = c.args.converted.now.basis in
     let equation = c.in_ok-equation.equation in
     let is : trace_equation b c.args.trace.now ≡ Some equation =
@@ -58,8 +58,8 @@ returns-clause-gives c =
     let turned = gave in_equal rule.Sym _ c.sym.result back c.sym.ensures.sequent c.in_ok-back.ensures in
     let same = over_basis equation.basis (sym_of equation.sequent) back turned
     ∙ equation_basis c.basis.result.now c.args.trace.now equation c.in_ok-equation.ensures.gives ∙ c.basis.ensures in
-    ok_after c.made_in_kernel.result c.eq_mp.result (λ th. over b (converted_back b c.args.trace.now c.args.converted.now.sequent) ≡ Some th)
+    ok_after c.made_in_kernel-made.result c.eq_mp.result (λ th. over b (converted_back b c.args.trace.now c.args.converted.now.sequent) ≡ Some th)
     (λ th made.
     expanded_gives b c.args.converted.now.sequent (trace_equation b c.args.trace.now) equation is c.requires.gives back turned th same
     (gave in_kernel kernel.EqMp (over back.basis (eq_mp_of back.sequent c.args.converted.now.sequent)) c.eq_mp.result th c.eq_mp.ensures.sequent made))
-    c.made_in_kernel.ensures
+    c.made_in_kernel-made.ensures

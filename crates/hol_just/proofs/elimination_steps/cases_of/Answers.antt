@@ -3,8 +3,8 @@ use Rattle.hol_derived.specs.Rules.{disj_cases_of}
 use Rattle.hol_just.proofs.Applied.{second_taken, second_applies, is_first, where_ok}
 use Rattle.hol_just.proofs.elimination_steps.cases_of.Goals as goal
 
-pub disj_cases-requires : goal.disj_cases-requires
-disj_cases-requires c =
+pub disj_cases-made-requires : goal.disj_cases-made-requires
+disj_cases-made-requires c =
     record {
       one_basis = c.requires.lemmas ∙ sym c.requires.over;
       same_basis = c.requires.over ∙ sym c.requires.also;

@@ -3,8 +3,8 @@ use Rattle.hol_derived.specs.Rules.{choose_of}
 use Rattle.hol_just.proofs.Applied.{second_taken, second_applies, is_first, where_ok}
 use Rattle.hol_just.proofs.elimination_steps.choice_with.Goals as goal
 
-pub choose-requires : goal.choose-requires
-choose-requires c =
+pub choose-made-requires : goal.choose-made-requires
+choose-made-requires c =
     record {
       one_basis = c.requires.lemmas ∙ sym c.requires.over;
       same_basis = c.requires.over ∙ sym ((is_first c.args.thms.now c.take.new.self c.take.result c.in-Some.chosen c.take.ensures c.in-Some.is).over);

@@ -4,8 +4,8 @@ use Rattle.hol_derived.specs.Rules.{spec_of}
 use Rattle.hol_just.proofs.Applied.{from_one_taken, is_first, where_ok, one_applies}
 use Rattle.hol_just.proofs.elimination_steps.specialization.Goals as goal
 
-pub spec-requires : goal.spec-requires
-spec-requires c =
+pub spec-made-requires : goal.spec-made-requires
+spec-made-requires c =
     record {
       one_basis = c.requires.lemmas ∙ sym ((is_first c.args.thms.now c.take.new.self c.take.result c.in-Some.each c.take.ensures c.in-Some.is).over);
       applies = one_applies (λ basis. spec_of basis (nameless [] c.args.t.now)) c.args.thms.now c.take.new.self c.in-Some.each (is_first c.args.thms.now c.take.new.self c.take.result c.in-Some.each c.take.ensures c.in-Some.is) c.requires.gives;

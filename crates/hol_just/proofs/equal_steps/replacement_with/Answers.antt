@@ -9,8 +9,8 @@ use Rattle.hol_just.specs.Reasons.{replaced}
 use Rattle.hol_just.proofs.Applied.{second_taken, second_applies, is_first, gave, where_ok, made_or_short}
 use Rattle.hol_just.proofs.equal_steps.replacement_with.Goals as goal
 
-pub made_in_equal-requires : goal.made_in_equal-requires
-made_in_equal-requires c =
+pub made_in_equal-made-requires : goal.made_in_equal-made-requires
+made_in_equal-made-requires c =
     made_or_short in_equal rule.Subst _ c.subst.result
     (subst (λ (b : Items). IsSome (over c.args.equation.basis (replaced b c.args.v.now (nameless [] c.args.m.now) c.args.equation.sequent c.in-Some.at_left.sequent))) (sym c.requires.over)
     (second_applies (replaced c.args.thms.now.basis c.args.v.now (nameless [] c.args.m.now) c.args.equation.sequent) c.args.equation.basis c.args.thms.now c.take.new.self c.in-Some.at_left (is_first c.args.thms.now c.take.new.self c.take.result c.in-Some.at_left c.take.ensures c.in-Some.is) c.requires.gives))

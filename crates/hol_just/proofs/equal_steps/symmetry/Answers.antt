@@ -4,8 +4,8 @@ use Rattle.hol_equal.specs.declared.error.Rule.TheVariants as rule
 use Rattle.hol_just.proofs.Applied.{from_one_taken, is_first, gave, where_ok, made_or_short, one_applies}
 use Rattle.hol_just.proofs.equal_steps.symmetry.Goals as goal
 
-pub made_in_equal-requires : goal.made_in_equal-requires
-made_in_equal-requires c =
+pub made_in_equal-made-requires : goal.made_in_equal-made-requires
+made_in_equal-made-requires c =
     made_or_short in_equal rule.Sym _ c.sym.result
     (one_applies (λ basis. sym_of) c.args.thms.now c.take.new.self c.in-Some.equation (is_first c.args.thms.now c.take.new.self c.take.result c.in-Some.equation c.take.ensures c.in-Some.is) c.requires)
     c.sym.ensures.sequent

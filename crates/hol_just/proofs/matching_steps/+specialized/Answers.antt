@@ -11,8 +11,8 @@ use Rattle.hol_derived.proofs.Instances.{over_basis}
 use Rattle.hol_just.proofs.MatchApplied.{spec_applies, rest_applies, rest_gives}
 use Rattle.hol_just.proofs.matching_steps.+specialized.Goals as goal
 
-pub spec-requires : goal.spec-requires
-spec-requires t c =
+pub spec-made-requires : goal.spec-made-requires
+spec-made-requires t c =
     let th = c.args.th in
     let formula = c.args.formula.now in
     let v = c.in-Some.v.now in

@@ -39,8 +39,8 @@ made_in_kernel-requires c =
     made_or_short in_kernel rule.InstType (over th.basis (inst_type_of th.basis c.types.result.now th.sequent)) c.inst_type.result
     (inst_type_applies th t concl ps c.hyps.ensures.set c.concl.ensures.concl c.requires f found general c.types.result.now c.types.ensures) c.inst_type.ensures.sequent
 
-pub made_in_kernel-requires-2 : goal.made_in_kernel-requires-2
-made_in_kernel-requires-2 c =
+pub made_in_kernel-made-requires : goal.made_in_kernel-made-requires
+made_in_kernel-made-requires c =
     let th = c.args.th.now in
     let t = nameless [] c.args.t.now in
     let concl = nameless [] c.concl.result.now in
@@ -63,9 +63,9 @@ returns c =
     let r = c.in_ok-typed.typed in
     let found : matched 0 concl (stays_of (map (nameless []) ps)) t ≡ Some (both (stays_of (map (nameless []) ps)) f) = search rules in
     let general : IsMostGeneral (stays_of (map (nameless []) ps)) concl t f = search rules in
-    ok_after c.made_in_kernel-2.result c.inst.result (λ new. over th.basis (instance_like th.basis t th.sequent) ≡ Some new)
+    ok_after c.made_in_kernel-made.result c.inst.result (λ new. over th.basis (instance_like th.basis t th.sequent) ≡ Some new)
     (λ new made.
     inst_gives th t concl ps c.hyps.ensures.set c.concl.ensures.concl c.requires f found general c.types.result.now c.types.ensures c.terms.result.now c.terms.ensures.terms c.terms.ensures.good r
     (gave in_kernel rule.InstType (over th.basis (inst_type_of th.basis c.types.result.now th.sequent)) c.inst_type.result r c.inst_type.ensures.sequent c.in_ok-typed.ensures) new
     (gave in_kernel rule.Inst (over r.basis (inst_of r.basis c.terms.result.now r.sequent)) c.inst.result new c.inst.ensures.sequent made))
-    c.made_in_kernel-2.ensures
+    c.made_in_kernel-made.ensures

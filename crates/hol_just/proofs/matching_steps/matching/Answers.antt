@@ -30,8 +30,8 @@ specialized-requires c =
       applies = specialized_applies c.args.thms.now given (bound_variables c.args.formula.now) (nameless [] c.args.t.now) c.requires.gives whole made over_it;
     }
 
-pub instance_like-requires : goal.instance_like-requires
-instance_like-requires c =
+pub instance_like-made-requires : goal.instance_like-made-requires
+instance_like-made-requires c =
     let given = c.args.given.now in
     let whole = c.in_ok-whole.whole in
     let made = subst (λ (b : Items). given_over b given ≡ Some whole) c.basis.ensures (gave in_kernel rule.Assume (given_over c.basis.result.now given) c.over.result whole c.over.ensures.sequent c.in_ok-whole.ensures) in

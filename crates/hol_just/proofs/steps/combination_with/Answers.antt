@@ -4,8 +4,8 @@ use Rattle.hol_kernel.specs.declared.error.Rule.TheVariants as rule
 use Rattle.hol_just.proofs.Applied.{second_taken, second_applies, is_first, gave, where_ok, made_or_short}
 use Rattle.hol_just.proofs.steps.combination_with.Goals as goal
 
-pub made_in_kernel-requires : goal.made_in_kernel-requires
-made_in_kernel-requires c =
+pub made_in_kernel-made-requires : goal.made_in_kernel-made-requires
+made_in_kernel-made-requires c =
     made_or_short in_kernel rule.MkComb _ c.mk_comb.result
     (second_applies (mk_comb_of c.args.functions.sequent) c.args.functions.basis c.args.thms.now c.take.new.self c.in-Some.arguments (is_first c.args.thms.now c.take.new.self c.take.result c.in-Some.arguments c.take.ensures c.in-Some.is) c.requires.gives)
     c.mk_comb.ensures.sequent

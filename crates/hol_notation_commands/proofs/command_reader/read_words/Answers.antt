@@ -10,14 +10,14 @@ use Rattle.hol_notation_terms.specs.Grammar.{a_quotation}
 use Rattle.hol_notation_terms.specs.Value.{quotation_value}
 use Rattle.hol_notation_tactics.specs.Grammar.{tactic_grammar, a_tactic}
 use Rattle.hol_notation_tactics.specs.Value.{tactic_value}
-use Rattle.hol_notation_commands.specs.declared.word.CommandWord.TheVariants.{Goal as GoalWord, Apply as ApplyWord, Back as BackWord, Rotate as RotateWord, Qed as QedWord, Oops as OopsWord, Import as ImportWord}
-use Rattle.hol_notation_commands.specs.Text.{Goal, Apply, Rotate, Import, Make, Local, Direct}
-use Rattle.hol_notation_commands.specs.Grammar.{commands_over_tactics, a_command, a_declaration, open_goal, run_tactic, undo, rotate, finish, give_up, import_theory, declare}
+use Rattle.hol_notation_commands.specs.declared.word.CommandWord.TheVariants.{Goal as GoalWord, Apply as ApplyWord, DefineTac as DefineTacWord, Back as BackWord, Rotate as RotateWord, Qed as QedWord, Oops as OopsWord, Import as ImportWord}
+use Rattle.hol_notation_commands.specs.Text.{Goal, Apply, DefineTac, Rotate, Import, Make, Local, Direct}
+use Rattle.hol_notation_commands.specs.Grammar.{commands_over_tactics, a_command, a_declaration, open_goal, run_tactic, define_tactic, undo, rotate, finish, give_up, import_theory, declare}
 use Rattle.hol_notation_commands.specs.Value.{command_value}
 use Rattle.hol_notation_commands.proofs.Words.{worded}
 use Rattle.hol_notation_commands.proofs.Picks.{looks, choose_command}
 use Rattle.hol_notation_commands.proofs.Certain.{certain}
-use Rattle.hol_notation_commands.proofs.Some.{quote_to_end, tactic_to_end, to_end, fills_name, fills_quotation, fills_number}
+use Rattle.hol_notation_commands.proofs.Some.{quote_to_end, tactic_to_end, to_end, fills_name, fills_quotation, fills_tactic, fills_number}
 use Rattle.hol_notation_commands.proofs.Steps.{both, term_found, term_fails, rest_command}
 use Rattle.hol_notation_commands.proofs.command_reader.read_words.Goals as goal
 
@@ -43,6 +43,21 @@ returns-in_err-tactic-in-Apply c =
 pub returns-in_ok-tactic-in-Apply : goal.returns-in_ok-tactic-in-Apply
 returns-in_ok-tactic-in-Apply c =
     arrive command_value (by_part certain (by_token (start certain (above a_command) run_tactic (map seen c.args.words.now) (looks a_command) (ap choose_command (sym c.next-next.ensures.word ∙ c.in-Apply.is)) tt) (worded ApplyWord (map seen c.args.words.now) tt c.next-next.ensures.word c.in-Apply.is c.next-next.ensures.rest)) (tactic_to_end a_command) (found_raised tactic_grammar commands_over_tactics tactic_value _ _ _ c.in_ok-tactic-in-Apply.ensures.reads)) (ap (λ t. Local (Apply t)) (found_raised tactic_grammar commands_over_tactics tactic_value _ _ _ c.in_ok-tactic-in-Apply.ensures.reads).says)
+
+pub returns-in_err-name-in-DefineTac : goal.returns-in_err-name-in-DefineTac
+returns-in_err-name-in-DefineTac c =
+    let p = err_from_is_err_and c.from_residual-in_err-name-in-DefineTac.result c.from_residual-in_err-name-in-DefineTac.ensures.1 in
+    rw (p.1, p.2) (miss c.args.end _ (by_token (start certain (above a_command) define_tactic (map seen c.args.words.now) (looks a_command) (ap choose_command (sym c.next-next.ensures.word ∙ c.in-DefineTac.is)) tt) (worded DefineTacWord (map seen c.args.words.now) tt c.next-next.ensures.word c.in-DefineTac.is c.next-next.ensures.rest)) (fills_tactic a_command) c.in_err-name-in-DefineTac.ensures)
+
+pub returns-in_err-tactic-in-DefineTac : goal.returns-in_err-tactic-in-DefineTac
+returns-in_err-tactic-in-DefineTac c =
+    let p = err_from_is_err_and c.from_residual-in_err-tactic-in-DefineTac.result c.from_residual-in_err-tactic-in-DefineTac.ensures.1 in
+    rw (p.1, p.2) (stick certain c.args.end _ (by_token (by_token (start certain (above a_command) define_tactic (map seen c.args.words.now) (looks a_command) (ap choose_command (sym c.next-next.ensures.word ∙ c.in-DefineTac.is)) tt) (worded DefineTacWord (map seen c.args.words.now) tt c.next-next.ensures.word c.in-DefineTac.is c.next-next.ensures.rest)) c.in_ok-name-in-DefineTac.ensures.taken) (tactic_to_end a_command) (fails_raised tactic_grammar commands_over_tactics (above a_tactic) c.args.end _ _ c.in_err-tactic-in-DefineTac.ensures.reads))
+
+pub returns-in_ok-tactic-in-DefineTac : goal.returns-in_ok-tactic-in-DefineTac
+returns-in_ok-tactic-in-DefineTac c =
+    let t = found_raised tactic_grammar commands_over_tactics tactic_value _ _ _ c.in_ok-tactic-in-DefineTac.ensures.reads in
+    arrive command_value (by_part certain (by_token (by_token (start certain (above a_command) define_tactic (map seen c.args.words.now) (looks a_command) (ap choose_command (sym c.next-next.ensures.word ∙ c.in-DefineTac.is)) tt) (worded DefineTacWord (map seen c.args.words.now) tt c.next-next.ensures.word c.in-DefineTac.is c.next-next.ensures.rest)) c.in_ok-name-in-DefineTac.ensures.taken) (tactic_to_end a_command) t) (both (λ n t. Local (DefineTac n t)) c.in_ok-name-in-DefineTac.ensures.says t.says)
 
 pub returns-in-Back : goal.returns-in-Back
 returns-in-Back c =
@@ -77,8 +92,8 @@ returns-in_ok-name-in-Import c =
 pub returns-in_err-command-in_default : goal.returns-in_err-command-in_default
 returns-in_err-command-in_default c =
     let p = err_from_is_err_and c.from_residual-in_err-command-in_default.result c.from_residual-in_err-command-in_default.ensures.1 in
-    rw (p.1, p.2) (stick certain c.args.end _ (start certain (above a_command) declare (map seen c.args.words.now) (looks a_command) (ap choose_command (sym c.next-next.ensures.word) ∙ rest_command _ c.in_default.not-Goal c.in_default.not-Apply c.in_default.not-Back c.in_default.not-Rotate c.in_default.not-Qed c.in_default.not-Oops c.in_default.not-Import) tt) (to_end a_command a_declaration) c.in_err-command-in_default.ensures)
+    rw (p.1, p.2) (stick certain c.args.end _ (start certain (above a_command) declare (map seen c.args.words.now) (looks a_command) (ap choose_command (sym c.next-next.ensures.word) ∙ rest_command _ c.in_default.not-Goal c.in_default.not-Apply c.in_default.not-DefineTac c.in_default.not-Back c.in_default.not-Rotate c.in_default.not-Qed c.in_default.not-Oops c.in_default.not-Import) tt) (to_end a_command a_declaration) c.in_err-command-in_default.ensures)
 
 pub returns-in_ok-command-in_default : goal.returns-in_ok-command-in_default
 returns-in_ok-command-in_default c =
-    arrive command_value (by_part certain (start certain (above a_command) declare (map seen c.args.words.now) (looks a_command) (ap choose_command (sym c.next-next.ensures.word) ∙ rest_command _ c.in_default.not-Goal c.in_default.not-Apply c.in_default.not-Back c.in_default.not-Rotate c.in_default.not-Qed c.in_default.not-Oops c.in_default.not-Import) tt) (to_end a_command a_declaration) c.in_ok-command-in_default.ensures) (ap (λ m. Local (Make m)) c.in_ok-command-in_default.ensures.says)
+    arrive command_value (by_part certain (start certain (above a_command) declare (map seen c.args.words.now) (looks a_command) (ap choose_command (sym c.next-next.ensures.word) ∙ rest_command _ c.in_default.not-Goal c.in_default.not-Apply c.in_default.not-DefineTac c.in_default.not-Back c.in_default.not-Rotate c.in_default.not-Qed c.in_default.not-Oops c.in_default.not-Import) tt) (to_end a_command a_declaration) c.in_ok-command-in_default.ensures) (ap (λ m. Local (Make m)) c.in_ok-command-in_default.ensures.says)

@@ -24,40 +24,40 @@ node_theorem-returns-in-Rule-clause-gives t c =
     IfOk-weaker c.redex_theorem.result _ _ (λ th e. rule_node c.args.basis.now c.args.ty.now c.args.node.now (nameless [] c.args.t.now) th c.in-Rule.rule c.in-Rule.is (subst (λ r. redex_equation c.args.basis.now c.args.ty.now r (nameless [] c.args.t.now) ≡ Some th) c.deref-in-Rule.ensures e)) c.redex_theorem.ensures.gives
 
 -- ---- in the parts of an application
-pub parts_theorem-mk_comb-requires-clause-applies :
-    goal.parts_theorem-mk_comb-requires-clause-applies
-parts_theorem-mk_comb-requires-clause-applies t c =
+pub parts_theorem-in_application-requires-clause-applies :
+    goal.parts_theorem-in_application-requires-clause-applies
+parts_theorem-in_application-requires-clause-applies t c =
     parts_apply c.args.basis.now (used c.args.function.now) (used c.args.argument.now) (traced c.args.function.now) (traced c.args.argument.now) c.args.t.now c.application.result.0.now c.application.result.1.now c.type_of.result.now c.type_of-2.result.now c.args.ty.now c.application.ensures
     c.type_of.ensures.named c.type_of-2.ensures.named c.requires.typed c.in_ok-left.left c.in_ok-right.right c.in_ok-left.ensures.gives c.in_ok-right.ensures.gives
 
 pub parts_theorem-returns-clause-gives : goal.parts_theorem-returns-clause-gives
 parts_theorem-returns-clause-gives t c =
-    IfOk-weaker c.mk_comb.result _ _
+    IfOk-weaker c.in_application.result _ _
     (λ th e. parts_node c.args.basis.now (used c.args.function.now) (used c.args.argument.now) (traced c.args.function.now) (traced c.args.argument.now) c.args.t.now c.application.result.0.now c.application.result.1.now c.type_of.result.now c.type_of-2.result.now c.args.ty.now
     c.application.ensures c.type_of.ensures.named c.type_of-2.ensures.named c.requires.typed c.in_ok-left.left c.in_ok-right.right c.in_ok-left.ensures.gives c.in_ok-right.ensures.gives th e)
-    c.mk_comb.ensures
+    c.in_application.ensures
 
 -- ---- in the body of an abstraction
 pub body_theorem-body_at-requires : goal.body_theorem-body_at-requires
 body_theorem-body_at-requires t c = record { fits = own_typed c.args.v.now (used c.args.body.now) (traced c.args.body.now) c.args.t.now c.abstraction.result.0.now c.abstraction.result.1.now c.abstraction.ensures c.requires.traced c.in_ok-own.own c.in_ok-own.ensures.is }
 
-pub body_theorem-abs-requires : goal.body_theorem-abs-requires
-body_theorem-abs-requires t c = record {
+pub body_theorem-in_abstraction-requires : goal.body_theorem-in_abstraction-requires
+body_theorem-in_abstraction-requires t c = record {
   applies = body_applies c.args.v.now (used c.args.body.now) (traced c.args.body.now) c.args.t.now c.abstraction.result.0.now c.abstraction.result.1.now c.abstraction.ensures c.requires.traced c.in_ok-own.own c.in_ok-inside.inside c.in_ok-own.ensures.is c.in_ok-inside.ensures.is c.args.basis.now c.requires.known
       c.type_of.result.now c.args.ty.now c.type_of.ensures.named c.in_ok-inside.ensures.typed c.requires.typed c.in_ok-th.th c.in_ok-th.ensures.gives;
 }
 
 pub body_theorem-returns-clause-gives : goal.body_theorem-returns-clause-gives
 body_theorem-returns-clause-gives t c =
-    IfOk-weaker c.abs.result _ _
+    IfOk-weaker c.in_abstraction.result _ _
     (λ r e. body_node c.args.v.now (used c.args.body.now) (traced c.args.body.now) c.args.t.now c.abstraction.result.0.now c.abstraction.result.1.now c.abstraction.ensures c.requires.traced c.in_ok-own.own c.in_ok-inside.inside c.in_ok-own.ensures.is c.in_ok-inside.ensures.is c.args.basis.now c.requires.known
     c.type_of.result.now c.args.ty.now c.type_of.ensures.named c.in_ok-inside.ensures.typed c.requires.typed c.in_ok-th.th c.in_ok-th.ensures.gives r e)
-    c.abs.ensures
+    c.in_abstraction.ensures
 
 -- ---- one after the other
 pub both_theorem-returns-clause-gives : goal.both_theorem-returns-clause-gives
 both_theorem-returns-clause-gives t c =
-    IfOk-weaker c.trans.result _ _
+    IfOk-weaker c.one_after_other.result _ _
     (λ th e. both_node c.args.basis.now (used c.args.first.now) (used c.args.second.now) (traced c.args.first.now) (traced c.args.second.now) c.args.ty.now c.in-Some.sides.ty.now c.args.t.now c.in-Some.sides.left.now c.in-Some.sides.right.now c.in_ok-left.left c.in_ok-left.ensures.gives c.in-Some.ensures
     c.in_ok-right.right c.in_ok-right.ensures.gives th e)
-    c.trans.ensures
+    c.one_after_other.ensures

@@ -1,4 +1,4 @@
-use Rattle.std.proofs.Common.{[], map, refl}
+use Rattle.std.proofs.Common.{[], map}
 use Rattle.hol_terms.specs.Nameless.{nameless}
 use Rattle.hol_goal.specs.UsedView.{used_value}
 use Rattle.hol_just.specs.Strip.{avoiding, Conjuncts, Disjuncts, Property, plain_piece}
@@ -26,9 +26,9 @@ pub returns-in-Some-dest_exists : goal.returns-in-Some-dest_exists
 returns-in-Some-dest_exists c =
     let n = nameless [] c.args.formula.now in
     let x = abstraction_of c.in-Some-dest_exists.x.now c.in-Some-dest_exists.p.now in
-    let made = c.in_ok-property in
-    become_as (avoiding (map (nameless []) c.args.others.now) c.args.names.now) n c.args.rest (used_value c.args.used) (Property x) made.field-0
-    (exists_piece c.args.rest.goal n x c.in_default.ensures.parts c.in_default-dest_disj.ensures.parts c.in-Some-dest_exists.ensures.parts) (λ avoided alike. made.ensures avoided (c.in_ok-v.ensures avoided alike))
+    let made = c.in_ok-parts in
+    become_as (avoiding (map (nameless []) c.args.others.now) c.args.names.now) n c.args.rest (used_value c.args.used) (Property x) made.parts
+    (exists_piece c.args.rest.goal n x c.in_default.ensures.parts c.in_default-dest_disj.ensures.parts c.in-Some-dest_exists.ensures.parts) made.ensures
 
 pub returns : goal.returns
 returns c =
@@ -36,6 +36,3 @@ returns c =
     let made = c.in_ok-plain in
     become_as (avoiding (map (nameless []) c.args.others.now) c.args.names.now) n c.args.rest (used_value c.args.used) (plain_piece c.args.rest.goal n) made.field-0
     (other_piece c.args.rest.goal n c.in_default.ensures.parts c.in_default-dest_disj.ensures.parts c.in_default-dest_exists.ensures.parts) (λ avoided alike. made.ensures avoided)
-
-pub property-requires-clause-typed : goal.property-requires-clause-typed
-property-requires-clause-typed c = (c.in_ok-v.ensures (avoiding (map (nameless []) c.args.others.now) c.args.names.now) ((λ a. refl), refl)).typed

@@ -1,8 +1,7 @@
-use Rattle.std.proofs.Common.{[], ◌∷◌, ap, ◌∙◌, subst, refl}
+use Rattle.std.proofs.Common.{[], ◌∷◌, ap, ◌∙◌, refl}
 use Rattle.hol_terms.specs.Nameless.{nameless}
 use Rattle.hol_goal.specs.UsedView.{used_value}
 use Rattle.hol_just.specs.Strip.{Conjuncts, waiting}
-use Rattle.hol_just.specs.Justifies.{LeavesConjuncts}
 use Rattle.hol_steps.proofs.PieceLaws.{conj_valid, one_always}
 use Rattle.hol_steps.proofs.pieces.conjuncts.Goals as goal
 
@@ -16,5 +15,5 @@ returns c =
     one_always c.one_part.result n rest (used_value c.args.used) (Conjuncts a b) c.put-2.new.self (waiting (a ∷ b ∷ rest.pieces) rest.goal) moves
     (c.in_ok-put-2.ensures ∙ ap (λ w. waiting (a ∷ w.pieces) w.goal) c.in_ok-put.ensures)
     (λ avoided. refl)
-    (λ extra. conj_valid n rest extra moves a b c.requires.parts (subst (λ th. LeavesConjuncts th moves) c.in_ok-assumption.ensures c.in_ok-just.ensures))
+    (λ extra. conj_valid n rest extra moves a b c.requires.parts c.in_ok-just.ensures)
     c.one_part.ensures.waiting c.one_part.ensures.just c.one_part.ensures.used

@@ -5,11 +5,11 @@ use Rattle.hol_terms.specs.Nameless.{Nameless, nameless}
 use Rattle.hol_terms.specs.Alpha.{strip, alpha_eq}
 use Rattle.hol_formulas.specs.Formula.{is_truth}
 use Rattle.hol_goal.specs.Goal.{GoalValue}
-use Rattle.hol_kernel.specs.Given.{Given, assumed}
+use Rattle.hol_kernel.specs.Given.{assumed}
 use Rattle.hol_goal.specs.UsedView.{used_value}
 use Rattle.hol_just.specs.Strip.{AvoidedValue, Piece, Dropped, Kept, plain_piece, waiting}
 use Rattle.hol_just.specs.Valid.{IsValid}
-use Rattle.hol_just.specs.Justifies.{always, ClosesByGiven, ClosesByFalsity}
+use Rattle.hol_just.specs.Justifies.{always, ClosesByFalsity}
 use Rattle.hol_just.specs.declared.reason.Move.{Move}
 use Rattle.hol_steps.specs.Parts.{with_pieces, AreParts}
 use Rattle.hol_steps.proofs.PieceLaws.{contr_piece_valid, accept_piece_valid, dropped_valid, one_always, none_always, kind_is, closing_false, closing_same, dropped_piece, kept_piece}
@@ -22,8 +22,7 @@ returns-then-is_falsity c =
     let moves = c.in_ok-just.just in
     let made = c.no_part.result in
     let kind = sym c.if-is_falsity.ensures in
-    let closes = subst (λ (t : Nameless). ClosesByFalsity t (assumed n) moves) (c.conclusion.ensures.term ∙ ap (λ (g : GoalValue). g.conclusion) c.goal.ensures)
-    (subst (λ (th : Given). ClosesByFalsity (nameless [] c.conclusion.result.now) th moves) c.in_ok-assumption.ensures c.in_ok-just.ensures) in
+    let closes = subst (λ (t : Nameless). ClosesByFalsity t (assumed n) moves) (c.conclusion.ensures.term ∙ ap (λ (g : GoalValue). g.conclusion) c.goal.ensures) c.in_ok-just.ensures in
     subst (λ (k : Piece). (avoided : AvoidedValue) → AreParts avoided n rest (used_value c.args.used) k made) (sym (closing_false rest.goal n kind))
     (none_always made n rest (used_value c.args.used) moves (λ extra. contr_piece_valid n rest extra moves kind closes) c.no_part.ensures.waiting c.no_part.ensures.just c.no_part.ensures.used)
 
@@ -36,7 +35,7 @@ returns-then-alpha_equivalent c =
     let alike : strip n ≡ strip rest.goal.conclusion = c.if-alpha_equivalent.ensures.equal.0 refl ∙ ap strip concl in
     let moves = c.in_ok-just-2.just in
     let made = c.no_part-then-alpha_equivalent.result in
-    let closes = subst (λ (th : Given). ClosesByGiven th moves) c.in_ok-assumption-2.ensures c.in_ok-just-2.ensures in
+    let closes = c.in_ok-just-2.ensures in
     subst (λ (k : Piece). (avoided : AvoidedValue) → AreParts avoided n rest (used_value c.args.used) k made) (sym (closing_same rest.goal n (sym c.if-is_falsity.ensures) same))
     (none_always made n rest (used_value c.args.used) moves (λ extra. accept_piece_valid n rest extra moves alike closes) c.no_part-then-alpha_equivalent.ensures.waiting c.no_part-then-alpha_equivalent.ensures.just
     c.no_part-then-alpha_equivalent.ensures.used)

@@ -4,13 +4,12 @@ use Rattle.hol_formulas.specs.Formula.{universal}
 use Rattle.hol_derived.specs.Rules.{over_variable}
 use Rattle.std.proofs.lemmas.Result.{IfOk-weaker}
 use Rattle.hol_types.specs.Tree.{TypeTree}
-use Rattle.hol_terms.specs.Nameless.{free, nameless}
+use Rattle.hol_terms.specs.Nameless.{Nameless, free, nameless}
 use Rattle.hol_goal.specs.Goal.{GoalValue}
 use Rattle.hol_just.specs.Leaving.{concluding}
 use Rattle.hol_just.specs.Replacing.{replace_each}
 use Rattle.hol_just.specs.Justifies.{LeavesGeneralized}
 use Rattle.hol_steps.proofs.Kept.{step_keeps}
-use Rattle.hol_steps.proofs.Templates.{general_is}
 use Rattle.hol_steps.proofs.substituting.spec_step.Goals as goal
 
 pub returns-clause-goals : goal.returns-clause-goals
@@ -22,9 +21,7 @@ returns-clause-goals c =
     ∙ ap (λ (g : GoalValue). g ∷ [])
     (c.in_ok-left.ensures
     ∙ ap (concluding c.args.goal.now)
-    (ap (nameless []) c.in_ok-general.ensures.is
-    ∙ general_is c.args.x.now c.in_ok-body.body n
-    (c.in_ok-body.ensures.is ∙ (λ i. replace_each (nameless [] c.args.t.now) (nameless [] (c.in_ok-variable.ensures.is i)) (c.conclusion-formula.ensures.term i))))))
+    (c.in_ok-general.ensures.is ∙ ap (λ (w : Nameless). universal (over_variable c.args.x.now (replace_each (nameless [] c.args.t.now) (free c.args.x.now) w))) c.conclusion.ensures.term)))
     c.leaving_one.ensures.goals
 
 pub returns-clause-just : goal.returns-clause-just

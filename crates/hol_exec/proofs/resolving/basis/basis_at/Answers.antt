@@ -3,7 +3,7 @@ use Rattle.std.proofs.lemmas.Result.{IfOk-weaker}
 use Rattle.hol_resolve.specs.ReadingView.{list_value}
 use Rattle.hol_theory.specs.EntryView.{entry_of_node}
 use Rattle.hol_exec.specs.Resolved.{occurs_in}
-use Rattle.hol_exec.proofs.CitedBases.{adds_type, adds_constant, adds_theorem}
+use Rattle.hol_exec.proofs.CitedBases.{adds_type, adds_constant, adds_theorem, adds_tac}
 use Rattle.hol_exec.proofs.resolving.basis.basis_at.Goals as goal
 
 pub returns-in-Type : goal.returns-in-Type
@@ -24,3 +24,9 @@ returns-in-Theorem c =
     IfOk-weaker c.copy-in-Theorem.result _ _
     (λ basis e. adds_theorem (list_value c.args.readings.now) c.args.value.now.0 _ c.in-Some.entry c.in-Theorem.theorem c.basis.result.now basis c.in-Some.is (sym c.node.ensures ∙ ap entry_of_node c.in-Theorem.is) c.basis.ensures e)
     c.copy-in-Theorem.ensures
+
+pub returns-in-Tac : goal.returns-in-Tac
+returns-in-Tac c =
+    IfOk-weaker c.copy-in-Tac.result _ _
+    (λ basis e. adds_tac (list_value c.args.readings.now) c.args.value.now.0 _ c.in-Some.entry c.in-Tac.expr c.in-Tac.bases.items c.in-Tac.basis basis c.in-Some.is (sym c.node.ensures ∙ ap entry_of_node c.in-Tac.is) e)
+    c.copy-in-Tac.ensures

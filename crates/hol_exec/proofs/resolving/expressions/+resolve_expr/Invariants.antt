@@ -6,10 +6,7 @@ use Rattle.hol_exec.proofs.Parts.{before}
 use Rattle.hol_exec.proofs.resolving.expressions.+resolve_expr.Given as goal
 
 abbrev pub decreases-resolve_expr : goal.decreases-resolve_expr
-decreases-resolve_expr g l = 4 * tac_nodes l.tactic.now + 1
-
-abbrev pub decreases-resolve_node : goal.decreases-resolve_node
-decreases-resolve_node g l = 4 * tac_nodes l.tactic.now
+decreases-resolve_expr g l = 4 * tac_nodes l.tactic.now
 
 abbrev pub decreases-resolve_each : goal.decreases-resolve_each
 decreases-resolve_each g l = 4 * tacs_nodes (tac_texts l.tactics.now) + 2

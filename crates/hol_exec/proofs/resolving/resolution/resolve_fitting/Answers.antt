@@ -17,12 +17,12 @@ resolve_read-requires-clause-over g c =
 pub returns-in-Ok-clause-value : goal.returns-in-Ok-clause-value
 returns-in-Ok-clause-value g c =
     if_ok c.resolve_read.result _ _ (λ r e.
-    past_readings (setup_value c.args.setup.now) c.args.reads.now.cited c.args.tactic.now _ _ _ (Ok (readings_value c.in-Ok.readings)) (resolution_value r)
+    past_readings (setup_value c.args.setup.now) _ c.args.reads.now.cited c.args.tactic.now _ _ _ (Ok (readings_value c.in-Ok.readings)) (resolution_value r)
     (ap signature_of c.cited.ensures.value) (c.deref.ensures.value ∙ c.in_ok-quotations.ensures ∙ ap quotations_in c.requires) c.in_ok-readings.ensures (ap readings_result c.in-Ok.is) e) c.resolve_read.ensures.value
 
 pub returns-clause-value : goal.returns-clause-value
 returns-clause-value g c =
     if_ok c.unresolved.result _ _ (λ r e.
-    past_readings (setup_value c.args.setup.now) c.args.reads.now.cited c.args.tactic.now _ _ _ (Err c.in-Err.refusal) (resolution_value r)
+    past_readings (setup_value c.args.setup.now) _ c.args.reads.now.cited c.args.tactic.now _ _ _ (Err c.in-Err.refusal) (resolution_value r)
     (ap signature_of c.cited.ensures.value) (c.deref.ensures.value ∙ c.in_ok-quotations.ensures ∙ ap quotations_in c.requires) c.in_ok-readings.ensures (ap readings_result c.in-Err.is) e)
     (refusal_ends (refused_by [] c.in-Err.refusal) c.in_ok-refused_by-in-Err.field-0 c.unresolved.result c.in_ok-refused_by-in-Err.ensures c.unresolved.ensures.value)

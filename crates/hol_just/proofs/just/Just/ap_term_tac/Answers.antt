@@ -1,8 +1,11 @@
 use Rattle.std.proofs.Common.{[]}
+use Rattle.std.proofs.lemmas.Result.{IfOk-weaker}
 use Rattle.hol_terms.specs.Nameless.{nameless}
 use Rattle.hol_just.proofs.Joined.{leaves_arguments}
 use Rattle.hol_just.proofs.just.Just.ap_term_tac.Goals as goal
 
 pub returns : goal.returns
 returns c =
-    leaves_arguments (nameless [] c.args.function.now) c.in_ok-just.just c.in_ok-closing.closing c.then_at.new.self c.in_ok-just.ensures c.in_ok-closing.ensures c.in_ok-then_at.ensures
+    IfOk-weaker c.joined.result _ _
+    (λ just is. leaves_arguments (nameless [] c.args.function.now) c.in_ok-just.just c.in_ok-closing.closing just c.in_ok-just.ensures c.in_ok-closing.ensures is)
+    c.joined.ensures

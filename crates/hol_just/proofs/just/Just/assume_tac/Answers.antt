@@ -1,9 +1,11 @@
 use Rattle.std.proofs.Common.{[]}
+use Rattle.std.proofs.lemmas.Result.{IfOk-weaker}
 use Rattle.hol_terms.specs.Nameless.{nameless}
 use Rattle.hol_just.proofs.Joined.{leaves_assuming}
 use Rattle.hol_just.proofs.just.Just.assume_tac.Goals as goal
 
 pub returns : goal.returns
 returns c =
-    leaves_assuming c.args.th.now (nameless [] c.concl.result.now) c.in_ok-just.just c.in_ok-assuming.assuming c.then_at.new.self c.concl.ensures.concl c.in_ok-just.ensures c.in_ok-assuming.ensures
-    c.in_ok-then_at.ensures
+    IfOk-weaker c.joined.result _ _
+    (λ just is. leaves_assuming c.args.th.now (nameless [] c.concl.result.now) c.in_ok-just.just c.in_ok-assuming.assuming just c.concl.ensures.concl c.in_ok-just.ensures c.in_ok-assuming.ensures is)
+    c.joined.ensures

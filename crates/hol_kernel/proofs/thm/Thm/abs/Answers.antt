@@ -18,7 +18,7 @@ closed-requires c =
     let fresh : is_free_in (set.items c.args.a.now.sequent.hyps) c.in-Var.variable ≡ false = search rules in
     let concl : c.in_ok-concl.concl ≡ mk_eq (fun_type c.in-Var.variable.1 c.in-Some.x.ty.now) (abs c.in-Var.variable c.in-Some.x.left.now) (abs c.in-Var.variable c.in-Some.x.right.now) = search rules in
     abs_derived c.args.a.now.basis c.in-Var.variable c.args.a.now.sequent c.in-Some.x.ty.now c.in-Some.x.left.now c.in-Some.x.right.now c.promise.ensures.derives (search rules) typed fresh c.in-Some.ensures.left c.in-Some.ensures.right
-    c.basis-2.result.now c.in_ok-hyps.hyps c.in_ok-concl.concl (search rules) (search rules) concl
+    c.basis-3.result.now c.in_ok-hyps.hyps c.in_ok-concl.concl (search rules) (search rules) concl
 
 pub returns-clause-sequent : goal.returns-clause-sequent
 returns-clause-sequent c =
@@ -30,4 +30,4 @@ returns-clause-sequent c =
     ap (λ (v : Named). over c.args.a.now.basis (abs_of c.args.a.now.basis v c.args.a.now.sequent)) is
     ∙ ap (option_map (theorem_on c.args.a.now.basis))
     (abs_gives c.args.a.now.basis c.in-Var.variable c.args.a.now.sequent (record { sides_type = c.in-Some.x.ty.now; left = nameless [] c.in-Some.x.left.now; right = nameless [] c.in-Some.x.right.now }) (search rules) typed fresh)
-    ∙ ap Some (sym (c.in_ok-closed.ensures ∙ (λ i. theorem_over (c.basis-2.ensures i) (hyps i) ((ap (nameless []) concl ∙ abs_concl c.in-Var.variable c.in-Some.x.ty.now c.in-Some.x.left.now c.in-Some.x.right.now) i))))
+    ∙ ap Some (sym (c.in_ok-closed.ensures ∙ (λ i. theorem_over (c.basis-3.ensures i) (hyps i) ((ap (nameless []) concl ∙ abs_concl c.in-Var.variable c.in-Some.x.ty.now c.in-Some.x.left.now c.in-Some.x.right.now) i))))

@@ -5,8 +5,8 @@ use Rattle.hol_kernel.specs.Rules.{trans_of}
 use Rattle.hol_kernel.proofs.Sound.{trans_sound, second_over, kept, alpha_type}
 use Rattle.hol_kernel.proofs.thm.Thm.trans.Goals as goal
 
-pub mk_eq_like-requires-clause-right : goal.mk_eq_like-requires-clause-right
-mk_eq_like-requires-clause-right c =
+pub mk_eq_from-requires-clause-right : goal.mk_eq_from-requires-clause-right
+mk_eq_from-requires-clause-right c =
     let one : c.in-Some.x.ty.now ≡ c.in-Some-dest_eq.y.ty.now =
     alpha_type c.in-Some.x.right.now c.in-Some-dest_eq.y.left.now c.in-Some.x.ty.now c.in-Some-dest_eq.y.ty.now (search rules) c.in-Some.ensures.right c.in-Some-dest_eq.ensures.left in
     c.in-Some-dest_eq.ensures.right ∙ ap Some (sym one)

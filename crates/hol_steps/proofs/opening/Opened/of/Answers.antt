@@ -1,6 +1,7 @@
 use Rattle.std.proofs.Common.{◌≡◌, ◌++◌, ◌∷◌, List, [], map, ap, ◌∙◌, refl, sym, subst, Some, rules}
 use Rattle.std.specs.Prelude.{ℕ}
 use Rattle.hol_types.specs.Tree.{TypeTree}
+use Rattle.hol_terms.specs.Named.{var}
 use Rattle.hol_terms.specs.Nameless.{Nameless, nameless, free_occurrences}
 use Rattle.hol_terms.specs.Scoped.{binds}
 use Rattle.hol_subst.specs.Closing.{open_with}
@@ -9,9 +10,8 @@ use Rattle.hol_steps.proofs.Stages.{IsStage, IsWithin, init_stage, init_longer, 
 use Rattle.hol_steps.proofs.Together.{left, inside, left_first, left_more, left_quantified, left_last, left_typed, variables_more, no_pairs, none_bad, rest_fewer}
 use Rattle.hol_steps.proofs.opening.Opened.of.Goals as goal
 
-pub put_pair-requires : goal.put_pair-requires
-put_pair-requires c =
-    c.in_ok-variable.ensures.typed ∙ ap (λ (u : List ℕ × TypeTree). Some u.1) (c.in_ok-v.ensures.is (map (nameless []) c.deref.result.now) (λ a. refl))
+pub put_apart-requires : goal.put_apart-requires
+put_apart-requires c = ap (λ (u : List ℕ × TypeTree). u.1) (c.in_ok-v.ensures.is (map (nameless []) c.deref.result.now) (λ a. refl))
 
 -- nothing is taken off yet
 pub binders-init : goal.binders-init
@@ -37,29 +37,29 @@ pub binders-preserved : goal.binders-preserved
 binders-preserved c =
     let inv = c.binders.invariant in
     let v = c.in_ok-v.v in
-    let variable = c.in_ok-variable.variable in
+    let variable = var v in
     let pairs = c.binders.pairs.items in
-    let added = c.put_pair.new.pairs.items in
+    let added = c.put_apart.new.pairs.items in
     let rest = c.binders.rest.now in
     let q = c.in-Some.q.now in
     let x = inside pairs c.in-Some.x.now q in
     let typed : v.1 ≡ c.in-Some.x.now.1 = ap (λ (u : List ℕ × TypeTree). u.1) (c.in_ok-v.ensures.is (map (nameless []) c.deref.result.now) (λ a. refl)) in
-    let opens : left added q ≡ open_with (nameless [] variable) 0 x.body = left_more pairs added v c.in-Some.x.now variable q c.in_ok-variable.ensures.is c.in_ok-put_pair.ensures.put inv.named in
+    let opens : left added q ≡ open_with (nameless [] variable) 0 x.body = left_more pairs added v c.in-Some.x.now variable q refl c.in_ok-put_apart.ensures.put inv.named in
     let parts : dest_forall (left pairs rest) ≡ Some x = left_quantified pairs c.in-Some.x.now rest q c.in-Some.ensures.parts inv.named in
-    let more : c.push.new.self.items ≡ c.binders.avoid.items ++ variable ∷ [] = search rules in
-    let longer : c.push-in-Some.new.self.items ≡ c.binders.variables.items ++ v ∷ [] = search rules in
+    let more = c.in_ok-put_apart.ensures.avoid in
+    let longer = c.in_ok-put_apart.ensures.variables in
     record {
       stage = λ names alike.
-          pushed names c.binders.avoid.items c.push.new.self.items c.binders.variables.items c.push-in-Some.new.self.items (nameless [] c.args.p.now) (left pairs rest) (left added q) x v variable
-          more longer c.in_ok-variable.ensures.is opens parts (inv.stage names alike) (rw c.deref.ensures.value at c.in_ok-v.ensures.is);
-      longer = longer_pushed c.args.avoid.items c.binders.avoid.items c.push.new.self.items c.binders.variables.items c.push-in-Some.new.self.items v variable inv.longer more longer c.in_ok-variable.ensures.is;
-      apart = apart_pushed c.args.avoid.items c.binders.avoid.items c.binders.variables.items c.push-in-Some.new.self.items v inv.longer longer (rw c.deref.ensures.value at c.in_ok-v.ensures.absent) inv.apart;
+          pushed names c.binders.avoid.items c.put_apart.new.avoid.items c.binders.variables.items c.put_apart.new.variables.items (nameless [] c.args.p.now) (left pairs rest) (left added q) x v variable
+          more longer refl opens parts (inv.stage names alike) (rw c.deref.ensures.value at c.in_ok-v.ensures.is);
+      longer = longer_pushed c.args.avoid.items c.binders.avoid.items c.put_apart.new.avoid.items c.binders.variables.items c.put_apart.new.variables.items v variable inv.longer more longer refl;
+      apart = apart_pushed c.args.avoid.items c.binders.avoid.items c.binders.variables.items c.put_apart.new.variables.items v inv.longer longer (rw c.deref.ensures.value at c.in_ok-v.ensures.absent) inv.apart;
       different =
-          differ_pushed c.args.avoid.items c.binders.avoid.items c.binders.variables.items c.push-in-Some.new.self.items v inv.longer longer (rw c.deref.ensures.value at c.in_ok-v.ensures.absent) inv.different;
-      within = within_pushed c.binders.variables.items c.push-in-Some.new.self.items (nameless [] c.args.p.now) (left pairs rest) (left added q) x v variable longer c.in_ok-variable.ensures.is opens parts inv.within;
+          differ_pushed c.args.avoid.items c.binders.avoid.items c.binders.variables.items c.put_apart.new.variables.items v inv.longer longer (rw c.deref.ensures.value at c.in_ok-v.ensures.absent) inv.different;
+      within = within_pushed c.binders.variables.items c.put_apart.new.variables.items (nameless [] c.args.p.now) (left pairs rest) (left added q) x v variable longer refl opens parts inv.within;
       typed = c.in-Some.ensures.typed;
-      named = variables_more pairs added v c.in-Some.x.now variable c.in_ok-variable.ensures.is typed c.in_ok-put_pair.ensures.put inv.named;
-      good = c.in_ok-put_pair.ensures.good inv.good;
+      named = variables_more pairs added v c.in-Some.x.now variable refl typed c.in_ok-put_apart.ensures.put inv.named;
+      good = c.in_ok-put_apart.ensures.good inv.good;
     }
 
 pub binders-smaller : goal.binders-smaller
