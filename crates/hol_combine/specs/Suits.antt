@@ -1,5 +1,5 @@
 -- What is asked of every call in an expression.
-use Rattle.std.specs.Prelude.{ℕ, Bool, true, ◌&&◌, nat_lt, Option, Some, None}
+use Rattle.std.specs.Prelude.{ℕ, Bool, true, ◌&&◌, Option, Some, None}
 use Rattle.hol_terms.specs.Nameless.{Nameless}
 use Rattle.hol_goal.specs.Arguments.{TacArgsValue, Nothing, Term, Theorem}
 use Rattle.hol_kernel.specs.Items.{Items}
@@ -41,13 +41,6 @@ abbrev mutual
   pub all_calls_of : (CallValue → Bool) → ExprValues → Bool
   all_calls_of test no_exprs = true
   all_calls_of test (more_exprs t ts) = all_calls test t && all_calls_of test ts
-
--- each index is below a length
-abbrev pub are_indices : ℕ → ExprValue → Bool
-are_indices n expr = all_calls (λ call. nat_lt call.index n) expr
-
-abbrev pub are_indices_of : ℕ → ExprValues → Bool
-are_indices_of n ts = all_calls_of (λ call. nat_lt call.index n) ts
 
 -- the basis suits all arguments that are written
 abbrev pub suits_expr : ExprValue → Items → Bool

@@ -1,5 +1,5 @@
 //! The names that the run of a command tested.
-ghost use Rattle.std.specs.Prelude.{◌≡◌, IfOk, IsTrue, [], map};
+ghost use Rattle.std.specs.Prelude.{◌≡◌, ◌↔◌, IfOk, IsTrue, [], map};
 ghost use Rattle.std.specs.List.{list_all};
 ghost use Rattle.hol_goal.specs.Names.{stands};
 ghost use Rattle.hol_exec.specs.Tested.{is_marked, marked, agrees};
@@ -39,7 +39,7 @@ impl Tested {
 
     /// Whether there are no names.
     pub fn is_none(&self) -> bool
-        ensures { IsTrue result → self.now ≡ [] }
+        ensures { IsTrue result ↔ (self.now ≡ []) }
     {
         self.names.is_empty()
     }
