@@ -28,8 +28,8 @@ made_with c =
     let property : type_eq c.in_ok-domain.property.now (fun_type c.in_ok-domain.domain.now bool_type) ≡ true = search rules in
     let named = (bytes_eq-Decides c.in-Const.name (codes "=")).0 name in
     let typed =
-        fun_parts_is c.in-Const.ty (c.in_ok-domain.domain.now, c.in_ok-domain.property.now) (parts_are c)
-        ∙ ap (fun_type c.in_ok-domain.domain.now) (same_type c.in_ok-domain.property.now (fun_type c.in_ok-domain.domain.now bool_type) property) in
+    fun_parts_is c.in-Const.ty (c.in_ok-domain.domain.now, c.in_ok-domain.property.now) (parts_are c)
+    ∙ ap (fun_type c.in_ok-domain.domain.now) (same_type c.in_ok-domain.property.now (fun_type c.in_ok-domain.domain.now bool_type) property) in
     λ i. constant (named i) (typed i)
 
 pub returns-clause-sides : goal.returns-clause-sides
