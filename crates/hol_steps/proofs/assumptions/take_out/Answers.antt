@@ -1,6 +1,7 @@
-use Rattle.std.proofs.Common.{◌≡◌, ◌++◌, ◌∷◌, [], rules}
+use Rattle.std.proofs.Common.{◌≡◌, ◌∙◌, ap, ◌++◌, ◌∷◌, [], rules}
+use Rattle.hol_terms.specs.Named.{named_type}
 use Rattle.hol_terms.specs.Nameless.{nameless}
-use Rattle.hol_steps.proofs.AssumptionLaws.{search_next, formula_here, formulas_after, formulas_push}
+use Rattle.hol_steps.proofs.AssumptionLaws.{search_next, formula_here, formulas_after, formulas_both, formulas_push}
 use Rattle.hol_steps.proofs.assumptions.take_out.Goals as goal
 
 pub search-preserved : goal.search-preserved
@@ -16,3 +17,16 @@ search-preserved c =
       formulas = formulas_push newer c.push.new.self.items p more c.search.invariant.formulas (formula_here left older p is c.search.invariant.rest);
       rest = formulas_after left older p is c.search.invariant.rest;
     }
+
+pub returns-then-alpha_equivalent-clause-formula :
+    goal.returns-then-alpha_equivalent-clause-formula
+returns-then-alpha_equivalent-clause-formula c =
+    ap named_type c.in_ok-copy.ensures ∙ formula_here c.search.left.now c.in-Some.older.now c.in-Some.p.now c.in-Some.ensures.cases.0 c.search.invariant.rest
+
+pub returns-then-alpha_equivalent-clause-formulas :
+    goal.returns-then-alpha_equivalent-clause-formulas
+returns-then-alpha_equivalent-clause-formulas c =
+    let left = c.search.left.now in
+    let older = c.in-Some.older.now in
+    formulas_both c.search.newer.items older c.add_copies.new.to.items c.in_ok-add_copies.ensures c.search.invariant.formulas
+    (formulas_after left older c.in-Some.p.now c.in-Some.ensures.cases.0 c.search.invariant.rest)
