@@ -1,8 +1,8 @@
 -- Nodes of expressions: where a chain is one node, no two nodes are one expression; and what a node's parts have of its nodes.
 use mathlib.Core.Bool.{true≢false}
-use Rattle.std.specs.Prelude.{◌≡◌, ◌↔◌, ◌+◌, ◌≤◌, ℕ, zero, suc, Bool, true, false, IsTrue, List, [], ◌∷◌, ◌++◌, refl}
+use Rattle.std.specs.Prelude.{◌≡◌, ◌↔◌, ◌+◌, ◌≤◌, ◌<◌, ℕ, zero, suc, Bool, true, false, IsTrue, List, [], ◌∷◌, ◌++◌, length, refl}
 use Rattle.std.specs.Global.{Vec}
-use Rattle.std.proofs.Common.{ap, sym, ◌∙◌, subst, arith}
+use Rattle.std.proofs.Common.{ap, sym, ◌∙◌, subst, arith, get_or}
 use Rattle.std.proofs.lemmas.List.{append-nil, append_assoc}
 use Rattle.hol_combine.specs.declared.expr.TacCall.{TacCall}
 use Rattle.hol_combine.specs.declared.expr.TheoremTac.{TheoremTac}
@@ -13,7 +13,21 @@ use Rattle.hol_combine.specs.declared.expr.ExprNode.TheVariants as node
 use Rattle.hol_combine.specs.Chains.{Steps, Alternatives, Uses, chain_of, last_chain}
 use Rattle.hol_combine.specs.ExprValue.{TheoremTacValue, ExprValue, Call, Then, ThenL, OrElse, Try, Repeat, Every, First, Replicate, Changed, DischThen, PopAssum, FirstAssum, SubgoalThen, Defined, exprs, then_all, or_else_all, used_through, expr_nodes, exprs_nodes}
 use Rattle.hol_combine.specs.ExprView.{expr_of_node, expr_of_handing}
-use Rattle.hol_combine.proofs.Lists.{nodes_in_then, nodes_in_or_else}
+
+-- ---- numbers of nodes
+
+pub nodes_at : (ts : List ExprValue) (i : ℕ) (d : ExprValue) → i < length ts → expr_nodes (get_or ts i d) ≤ exprs_nodes (exprs ts)
+nodes_at [] i d h = absurd (omega (arith, h))
+nodes_at (t ∷ ts) zero d h = omega arith
+nodes_at (t ∷ ts) (suc i) d h = let l : i < length ts = omega (arith, h) in omega (arith, nodes_at ts i d l)
+
+nodes_in_then : (t : ExprValue) (us : List ExprValue) → expr_nodes t + exprs_nodes (exprs us) ≤ expr_nodes (then_all t us)
+nodes_in_then t [] = omega arith
+nodes_in_then t (u ∷ us) = omega (arith, nodes_in_then (Then t u) us)
+
+nodes_in_or_else : (t : ExprValue) (us : List ExprValue) → expr_nodes t + exprs_nodes (exprs us) ≤ expr_nodes (or_else_all t us)
+nodes_in_or_else t [] = omega arith
+nodes_in_or_else t (u ∷ us) = omega (arith, nodes_in_or_else u us)
 
 -- ---- which node an expression has
 

@@ -3,8 +3,7 @@ use Rattle.std.proofs.Common.{◌≡◌, ◌+◌, ◌≤◌, length, arith, ap, 
 use Rattle.std.proofs.lemmas.Bool.{eqb-true}
 use Rattle.std.proofs.lemmas.List.{same_lists}
 use Rattle.hol_combine.specs.ExprValue.{ExprValue, exprs, expr_nodes, exprs_nodes}
-use Rattle.hol_combine.proofs.Lists.{nodes_at}
-use Rattle.hol_theory.proofs.Nodes.{Shape, ACall, AThen, AThenL, AnOrElse, ATry, ARepeat, AnEvery, AFirst, AReplicate, AChanged, AHand, AUse, node_shape, differ, then_parts, or_else_parts, used_part, same_then, same_then_l, same_or_else, same_every, same_first, same_use, over, all_two, all_three, first_fails, second_fails}
+use Rattle.hol_theory.proofs.Nodes.{Shape, ACall, AThen, AThenL, AnOrElse, ATry, ARepeat, AnEvery, AFirst, AReplicate, AChanged, AHand, AUse, node_shape, differ, then_parts, or_else_parts, used_part, same_then, same_then_l, same_or_else, same_every, same_first, same_use, over, nodes_at, all_two, all_three, first_fails, second_fails}
 use Rattle.hol_combine.specs.Chains.{IsWhole}
 use Rattle.hol_theory.proofs.same_expr.+same_expr.Goals as goal
 use Rattle.hol_theory.proofs.same_expr.+same_expr.Goals.{same_expr-then-same_expr, same_expr-else-same_expr, same_expr-then-same_expr-4, same_expr-else-same_expr-4}
