@@ -17,5 +17,5 @@ returns c =
     let body = c.args.body.now in
     IfOk-weaker c.images.result _ _
     (λ ts e u q. ap (λ xs. is_free_in (map (λ t. nameless [] t) xs) u) (e ∙ ap (λ ws. images_of pairs old new ws) c.deref.ensures.value)
-        ∙ alike_images pairs old new v body c.add_alike.new.found.items c.requires (λ w. c.in_ok-add_alike.ensures w ∙ ap (λ xs. binds xs w || is_alike_in v [] body w) c.new-found.ensures.items) u q)
+    ∙ alike_images pairs old new v body c.add_alike.new.found.items c.requires (λ w. c.in_ok-add_alike.ensures w ∙ ap (λ xs. binds xs w || is_alike_in v [] body w) c.new-found.ensures.items) u q)
     c.images.ensures
