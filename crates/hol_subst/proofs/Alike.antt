@@ -35,7 +35,7 @@ or_none true = refl
 or_none false = refl
 
 -- a variable that is put at the end
-pub one_put : (v w : Var) (inner old : Variables) → (is_alike v w && (not (binds old w) && not (binds inner w))) ≡ true → (u : Var) → binds (old ++ w ∷ []) u ≡ (binds old u || is_alike_in v inner (var w) u)
+one_put : (v w : Var) (inner old : Variables) → (is_alike v w && (not (binds old w) && not (binds inner w))) ≡ true → (u : Var) → binds (old ++ w ∷ []) u ≡ (binds old u || is_alike_in v inner (var w) u)
 one_put v w inner old h u = binds_append old (w ∷ []) u ∙ by (variable_eq w u) refl
   where
     parts : (is_alike v w ≡ true) × ((not (binds old w) && not (binds inner w)) ≡ true)
@@ -53,7 +53,7 @@ one_put v w inner old h u = binds_append old (w ∷ []) u ∙ by (variable_eq w 
     by false p = ap (λ b. binds old u || b) (sym (nowhere (is_alike v u) (not (binds inner u))))
 
 -- one that is not
-pub one_left : (v w : Var) (inner old : Variables) → (is_alike v w && (not (binds old w) && not (binds inner w))) ≡ false → (u : Var) → binds old u ≡ (binds old u || is_alike_in v inner (var w) u)
+one_left : (v w : Var) (inner old : Variables) → (is_alike v w && (not (binds old w) && not (binds inner w))) ≡ false → (u : Var) → binds old u ≡ (binds old u || is_alike_in v inner (var w) u)
 one_left v w inner old h u = by (variable_eq w u) refl
   where
     cases : (a o i : Bool) → (a && (not o && not i)) ≡ false → o ≡ (o || (a && (not i && true)))
@@ -67,6 +67,15 @@ one_left v w inner old h u = by (variable_eq w u) refl
         let same : w ≡ u = (variable_eq_decides w u).0 p in
         cases (is_alike v u) (binds old u) (binds inner u) (ap (λ x. is_alike v x && (not (binds old x) && not (binds inner x))) (sym same) ∙ h)
     by false p = or_none (binds old u) ∙ ap (λ b. binds old u || b) (sym (nowhere (is_alike v u) (not (binds inner u))))
+
+-- the same for what the code has at its ends
+pub put_at : (v w x : Var) (inner old seen new : Variables) (r : Bool) → seen ≡ old → r ≡ (is_alike v w && (not (binds seen w) && not (binds inner w))) → r ≡ true → x ≡ w → new ≡ old ++ x ∷ [] → (u : Var) → binds new u ≡ (binds old u || is_alike_in v inner (var w) u)
+put_at v w x inner old seen new r s t e i n u =
+    ap (λ xs. binds xs u) (n ∙ ap (λ y. old ++ y ∷ []) i)
+    ∙ one_put v w inner old (ap (λ xs. is_alike v w && (not (binds xs w) && not (binds inner w))) (sym s) ∙ sym t ∙ e) u
+
+pub left_at : (v w : Var) (inner old seen : Variables) (r : Bool) → seen ≡ old → r ≡ (is_alike v w && (not (binds seen w) && not (binds inner w))) → r ≡ false → (u : Var) → binds old u ≡ (binds old u || is_alike_in v inner (var w) u)
+left_at v w inner old seen r s t e = one_left v w inner old (ap (λ xs. is_alike v w && (not (binds xs w) && not (binds inner w))) (sym s) ∙ sym t ∙ e)
 
 -- ---- what stands for the variables that were found
 module _ (pairs : List (TypeTree × List ℕ)) where

@@ -89,8 +89,10 @@ changed-requires-in-Abs t c = (
     search rules,
     (
       c.requires.names,
-      (variant_base _ (variable_inst c.args.types.now.pairs.now c.in-Abs.v) c.in_ok-u-in-Abs.u c.in_ok-u-in-Abs.ensures, c.requires.bases),
-      renamed_inside c.args.types.now.pairs.now (binders c.args.old.now) (binders c.args.new.now) c.args.renamed.bits c.with_binder-renamed.result.bits c.in-Abs.v c.in_ok-u-in-Abs.u c.with_binder-renamed.ensures c.requires.renamed,
+      (
+        (variant_base _ (variable_inst c.args.types.now.pairs.now c.in-Abs.v) c.in_ok-u-in-Abs.u c.in_ok-u-in-Abs.ensures, c.requires.bases),
+        renamed_inside c.args.types.now.pairs.now (binders c.args.old.now) (binders c.args.new.now) c.args.renamed.bits c.with_binder-renamed.result.bits c.in-Abs.v c.in_ok-u-in-Abs.u c.with_binder-renamed.ensures c.requires.renamed,
+      ),
     ),
   ),
 )

@@ -1,22 +1,9 @@
-use Rattle.std.proofs.Common.{not, ◌&&◌, ◌++◌, ◌∷◌, [], ap, sym, ◌∙◌}
 use Rattle.hol_terms.specs.Scope.{binders}
-use Rattle.hol_terms.specs.Scoped.{binds}
-use Rattle.hol_subst.specs.Renaming.{is_alike}
-use Rattle.hol_subst.proofs.Alike.{one_put, one_left}
+use Rattle.hol_subst.proofs.Alike.{put_at, left_at}
 use Rattle.hol_subst.proofs.instances.add_variable.Goals as goal
 
 pub returns-in_ok-push : goal.returns-in_ok-push
-returns-in_ok-push c u =
-    let v = c.args.alike.now.v.now in
-    let w = c.args.w.now in
-    let inner = binders c.args.inner.now in
-    let found = c.args.found.now.items in
-    ap (λ xs. binds xs u) (c.in_ok-push.ensures.items ∙ ap (λ x. found ++ x ∷ []) c.in_ok-copy.ensures)
-    ∙ one_put v w inner found (ap (λ xs. is_alike v w && (not (binds xs w) && not (binds inner w))) (sym c.deref.ensures.value) ∙ sym c.is_new.ensures ∙ c.if-is_new.true) u
+returns-in_ok-push c = put_at c.args.alike.now.v.now c.args.w.now _ (binders c.args.inner.now) c.args.found.now.items _ _ _ c.deref.ensures.value c.is_new.ensures c.if-is_new.true c.in_ok-copy.ensures c.in_ok-push.ensures.items
 
 pub returns-else-is_new : goal.returns-else-is_new
-returns-else-is_new c =
-    let v = c.args.alike.now.v.now in
-    let w = c.args.w.now in
-    let inner = binders c.args.inner.now in
-    one_left v w inner c.args.found.now.items (ap (λ xs. is_alike v w && (not (binds xs w) && not (binds inner w))) (sym c.deref.ensures.value) ∙ sym c.is_new.ensures ∙ c.if-is_new.false)
+returns-else-is_new c = left_at c.args.alike.now.v.now c.args.w.now (binders c.args.inner.now) c.args.found.now.items _ _ c.deref.ensures.value c.is_new.ensures c.if-is_new.false
