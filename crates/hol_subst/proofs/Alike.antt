@@ -5,7 +5,7 @@ use Rattle.std.proofs.lemmas.Bool.{or_left, or_right, and_parts, not-true}
 use Rattle.std.proofs.lemmas.Slice.Eq.{bytes_eq-Decides}
 use Rattle.hol_types.specs.Tree.{TypeTree}
 use Rattle.hol_types.specs.Equal.{variable_eq}
-use Rattle.hol_terms.specs.Named.{Named, var}
+use Rattle.hol_terms.specs.Named.{Named, var, abs}
 use Rattle.hol_terms.specs.Nameless.{Nameless, base_of, nameless, free_occurrences}
 use Rattle.hol_terms.specs.Primes.{with_primes}
 use Rattle.hol_terms.specs.Scoped.{binds, occurs_in, add_all}
@@ -67,6 +67,16 @@ one_left v w inner old h u = by (variable_eq w u) refl
         let same : w ≡ u = (variable_eq_decides w u).0 p in
         cases (is_alike v u) (binds old u) (binds inner u) (ap (λ x. is_alike v x && (not (binds old x) && not (binds inner x))) (sym same) ∙ h)
     by false p = or_none (binds old u) ∙ ap (λ b. binds old u || b) (sym (nowhere (is_alike v u) (not (binds inner u))))
+
+-- a binder that isn't alike binds none of them
+pub beside : (v l : Var) (inner : Variables) (b : Named) → is_alike v l ≡ false → (w : Var) → is_alike_in v inner b w ≡ is_alike_in v inner (abs l b) w
+beside v l inner b n w = by (variable_eq l w) refl
+  where
+    by : (e : Bool) → variable_eq l w ≡ e → (is_alike v w && (not (binds inner w) && occurs_in w b)) ≡ (is_alike v w && (not (binds inner w) && cond e false (occurs_in w b)))
+    by true p =
+        let other : is_alike v w ≡ false = ap (is_alike v) (sym ((variable_eq_decides l w).0 p)) ∙ n in
+        rw other refl
+    by false p = refl
 
 -- the same for what the code has at its ends
 pub put_at : (v w x : Var) (inner old seen new : Variables) (r : Bool) → seen ≡ old → r ≡ (is_alike v w && (not (binds seen w) && not (binds inner w))) → r ≡ true → x ≡ w → new ≡ old ++ x ∷ [] → (u : Var) → binds new u ≡ (binds old u || is_alike_in v inner (var w) u)

@@ -1,5 +1,5 @@
 //! Instantiation of type variables in terms.
-ghost use Rattle.std.specs.Prelude.{◌≡◌, ◌⊎◌, ◌&&◌, ◌||◌, not, ◌∷◌, ◌++◌, [], map, bytes_eq, IfOk, OnOk, MatchOption, List, ℕ};
+ghost use Rattle.std.specs.Prelude.{◌≡◌, ◌⊎◌, ◌&&◌, ◌||◌, not, ◌∷◌, ◌++◌, [], map, IfOk, OnOk, MatchOption, List, ℕ};
 ghost use Rattle.hol_types.specs.Tree.{TypeTree};
 ghost use Rattle.hol_types.specs.Subst.{type_subst};
 ghost use Rattle.hol_terms.specs.Named.{var, constant};
@@ -194,8 +194,8 @@ fn other_images(
     images(alloc, pairs, old, new, &found)
 }
 
-// Puts each variable alike that is free in the term, and not there yet, at the end. Of the binders that were passed only those alike may
-// bind one.
+// Puts each variable alike that is free in the term, and not there yet, at the end. Of the binders that were passed only those that are
+// alike bind one.
 fn add_alike(
     alike: &Alike<'_>,
     inner: &Scope,
@@ -213,7 +213,7 @@ fn add_alike(
             add_alike(alike, inner, x, found)
         }
         TermNode::Abs(l, b) => {
-            if has_base(l, alike.base) {
+            if is_alike(alike, l) {
                 return add_alike(alike, &Scope::Inside(l, &*inner), b, found);
             }
             add_alike(alike, inner, b, found)
@@ -242,14 +242,15 @@ fn is_new(alike: &Alike<'_>, inner: &Scope, w: &Variable, found: &[Variable]) ->
     requires { alike.now.base.now ≡ base_of alike.now.v.now.0 }
     ensures { result ≡ (is_alike alike.now.v.now w.now && (not (binds found.now w.now) && not (binds (binders inner.now) w.now))) }
 {
-    has_base(w, alike.base) && !w.same(alike.v) && !contains(found, w) && !inner.binds(w)
+    is_alike(alike, w) && !contains(found, w) && !inner.binds(w)
 }
 
-// Whether the variable's name is the base with primes at its end.
-fn has_base(w: &Variable, base: &str) -> bool
-    ensures { result ≡ bytes_eq (base_of w.now.0) base.now }
+// Whether it is another variable than the bound one, and differs from it in name by primes alone.
+fn is_alike(alike: &Alike<'_>, w: &Variable) -> bool
+    requires { alike.now.base.now ≡ base_of alike.now.v.now.0 }
+    ensures { result ≡ is_alike alike.now.v.now w.now }
 {
-    base_name(w.name().as_str()) == base
+    base_name(w.name().as_str()) == alike.base && !w.same(alike.v)
 }
 
 // What stands for each of the variables, as terms.
