@@ -5,6 +5,7 @@ use Rattle.std.proofs.lemmas.Bool.{or_left, or_right, and_parts, not-true}
 use Rattle.std.proofs.lemmas.Slice.Eq.{bytes_eq-Decides}
 use Rattle.hol_types.specs.Tree.{TypeTree}
 use Rattle.hol_types.specs.Equal.{variable_eq}
+use Rattle.hol_types.specs.Filter.{name_bit}
 use Rattle.hol_terms.specs.Named.{Named, var, abs}
 use Rattle.hol_terms.specs.Nameless.{Nameless, base_of, nameless, free_occurrences}
 use Rattle.hol_terms.specs.Primes.{with_primes}
@@ -25,6 +26,14 @@ abbrev Variables : Type 0
 Variables = List (List ℕ × TypeTree)
 
 -- ---- the walk
+-- variables whose names have different places differ
+pub told_apart : (v w : Var) → (name_bit v.0 ≡ name_bit w.0 → ⊥) → variable_eq v w ≡ false
+told_apart v w h = by (variable_eq v w) refl
+  where
+    by : (b : Bool) → variable_eq v w ≡ b → variable_eq v w ≡ false
+    by true e = absurd (h (ap (λ (u : Var). name_bit u.0) ((variable_eq_decides v w).0 e)))
+    by false e = e
+
 nowhere : (a b : Bool) → (a && (b && false)) ≡ false
 nowhere true true = refl
 nowhere true false = refl

@@ -2,6 +2,7 @@
 ghost use Rattle.std.specs.Prelude.{◌≡◌, ◌⊎◌, ◌&&◌, ◌||◌, not, ◌∷◌, ◌++◌, [], map, IfOk, OnOk, MatchOption, List, ℕ};
 ghost use Rattle.hol_types.specs.Tree.{TypeTree};
 ghost use Rattle.hol_types.specs.Subst.{type_subst};
+ghost use Rattle.hol_types.specs.Equal.{variable_eq};
 ghost use Rattle.hol_terms.specs.Named.{var, constant};
 ghost use Rattle.hol_terms.specs.Nameless.{nameless, base_of, free_occurrences};
 ghost use Rattle.hol_terms.specs.Scope.{binders};
@@ -242,7 +243,25 @@ fn is_new(alike: &Alike<'_>, inner: &Scope, w: &Variable, found: &[Variable]) ->
     requires { alike.now.base.now ≡ base_of alike.now.v.now.0 }
     ensures { result ≡ (is_alike alike.now.v.now w.now && (not (binds found.now w.now) && not (binds (binders inner.now) w.now))) }
 {
-    is_alike(alike, w) && !contains(found, w) && !inner.binds(w)
+    is_alike(alike, w) && !contains(found, w) && !is_bound(inner, w)
+}
+
+// Whether one of the binders is the variable.
+fn is_bound(inner: &Scope, w: &Variable) -> bool
+    ensures { result ≡ binds (binders inner.now) w.now }
+{
+    match inner {
+        Scope::Outside => false,
+        Scope::Inside(l, outer) => are_same(l, w) || is_bound(outer, w),
+    }
+}
+
+// Whether the two are the same: as `Variable::same`, but most that differ are told apart by the places of their names.
+#[tactic(auto, using(crate::proofs::Alike::told_apart))]
+fn are_same(v: &Variable, w: &Variable) -> bool
+    ensures { result ≡ variable_eq v.now w.now }
+{
+    v.filter().same(w.filter()) && v.same(w)
 }
 
 // Whether it is another variable than the bound one, and differs from it in name by primes alone.
@@ -310,7 +329,7 @@ fn standing<'a>(old: &Scope, new: &Scope<'a>, v: &Variable) -> Option<&'a Variab
         (Scope::Outside, _) => None,
         (Scope::Inside(_, _), Scope::Outside) => None,
         (Scope::Inside(l, old), Scope::Inside(r, new)) => {
-            if l.same(v) {
+            if are_same(l, v) {
                 Some(*r)
             } else {
                 standing(old, new, v)
