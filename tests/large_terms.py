@@ -122,6 +122,21 @@ def deep_expressions():
     yield Case("2,041 theorems in a list", ["g N `p:bool`", "e REWRITE_TAC [TRUTH" + "; TRUTH" * 2_040 + "]"], "goals")
 
 
+def instances(count):
+    """So many binders, each of which is a variable of the body, at another type: nothing is captured."""
+    others = joined(" ", (f"x{k}" for k in range(1, count)))
+    axiom = rf"new_axiom AX `P (\(x0:A) {others}. c x0 {others}):bool`"
+    return ["new_constant c `:" + "A->" * count + "bool`", axiom, "g N `T`", "e MP_TAC (INST_TYPE [`:B`,`:A`] AX)"]
+
+
+def capturing(count):
+    """So many binders, over a body in which the variable of each one's name and another type is free: the types become one."""
+    others = joined(" ", (f"x{k}" for k in range(1, count)))
+    arrows = "A->" * count + "bool`"
+    axiom = rf"new_axiom AX `!g. P (\(x0:B) {others}. d g x0 {others}):bool`"
+    return ["new_constant c `:" + arrows, "new_constant d `:bool->" + arrows, axiom, "g N `T`", f"e MP_TAC (INST_TYPE [`:A`,`:B`] (SPEC `c (x0:A) {others}` AX))"]
+
+
 def deep_runs():
     """Functions on goals, and what justifies them, on deep terms: taken apart, rewritten, reduced, instantiated, compared."""
     last = r"(T /\ T)"
@@ -152,6 +167,8 @@ def deep_runs():
     yield Case("900 binders that capture", [rf"g N `!x0:bool. P ((\y {captured}. y) x0):bool`", "e BETA_TAC"], "goals")
     at_a = "new_axiom AX `!" + joined(" ", (f"(x{k}:A)" for k in range(600))) + ". x0 = x0`"
     yield Case("600 binders at another type", [at_a, "g N `T`", "e MP_TAC (INST_TYPE [`:B->B`,`:A`] AX)"], "goals")
+    yield Case("2,000 binders over as many variables, at another type", instances(2_000), "goals")
+    yield Case("1,300 binders that capture at another type", capturing(1_300), "goals")
     types = [*LIST, "new_axiom AX `!x:A. x = x`", "g N `T`", "e MP_TAC (INST_TYPE [`:A" + " list" * 2_400 + "`,`:A`] AX)"]
     yield Case("an instance at a type of 2,400 lists", types, "goals")
     deeper = [*LIST, "new_axiom AX `!x:A. P x ==> T`", "g N `T`", "e MP_TAC (INST_TYPE [`:A" + " list" * 3_900 + "`,`:A`] AX)"]
