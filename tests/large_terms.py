@@ -1,11 +1,12 @@
 """Documents of the deepest and the largest things that the limits allow, and of what would be exponentially larger if it were written out.
 
-A case is its name, its commands, and what the report on the last one has to be: the number of a refusal, `goals` or `made`. The sizes follow from
-docs/PROTOCOL.md: 20,000 nodes, 4,096 tokens, 200 brackets that are open, 1,000 commands, so many turns."""
+A case is its name, its commands, and what the report on the last one has to be: the number of a refusal, `goals` or `made`; some have commands of a
+theory B that stands earlier. The sizes follow from docs/PROTOCOL.md: 20,000 nodes, 4,096 tokens, 200 brackets that are open, 1,000 commands, so many
+turns."""
 
 import collections
 
-Case = collections.namedtuple("Case", "name commands want turns seconds", defaults=(10_000, 1.0))
+Case = collections.namedtuple("Case", "name commands want turns seconds earlier", defaults=(10_000, 1.0, ()))
 
 LIST = ["new_type list 1"]
 PAIR = "new_constant pair `:A->(A->A->B)->B`"
@@ -76,6 +77,27 @@ def at_limits():
     yield Case("999 steps", ["g N `p:bool`", *["e ALL_TAC"] * 999], "goals")
     yield Case("996 rotations, and no end", ["g N `T /\\ T`", "e CONJ_TAC", *["r 9999"] * 996, "qed"], 19)
     yield Case("998 steps, and an end", ["g N `T`", *["e ALL_TAC"] * 997, "e ACCEPT_TAC TRUTH", "qed"], "made")
+
+
+def many_citations():
+    """As many theorems as a command can cite, in an expression that gets a name: on what each of them rests by itself is kept with it."""
+    axioms = [f"new_axiom A{k} `T`" for k in range(300)]
+    unused = "REWRITE_TAC [" + joined("; ", (f"A{k}" for k in range(300))) + "]"
+
+    def resting(statement, proof):
+        return [*axioms, f"g L `{statement}`", f"e FIRST [{proof}; {unused}]", "qed"]
+
+    def named(theorems):
+        return "deftac D REWRITE_TAC [" + joined("; ", theorems) + "]"
+
+    one = [*resting("T", "ACCEPT_TAC TRUTH"), named(["L"] * 2_000)]
+    yield Case("a theorem on 300 axioms cited 2,000 times, named", one, "made")
+    yield Case("the same, imported twice", ["import B", "import B"], "made", earlier=one)
+    general = [*resting("!x:bool. T", "GEN_TAC THEN ACCEPT_TAC TRUTH"), "new_constant c `:bool`"]
+    yield Case("650 instances of a theorem on 300 axioms by a constant, named", [*general, named(["SPEC `c` L"] * 650)], "made")
+    earlier, own = ([f"new_axiom {name}{k} `T`" for k in range(count)] for name, count in (("B", 1_000), ("C", 998)))
+    names = [it.split()[1] for it in [*earlier, *own]]
+    yield Case("1,998 theorems cited, named", ["import B", *own, named(names)], "made", earlier=earlier)
 
 
 def deep_terms():
