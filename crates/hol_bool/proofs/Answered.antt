@@ -13,9 +13,6 @@ use Rattle.hol_derived.specs.Applied.{specialized}
 use Rattle.hol_bool.specs.Rules.{spec_of}
 
 module _ (basis : Items) (t : Nameless) (a : Sequent) where
-  pub spec_none : dest_forall a.concl ≡ None → spec_of basis t a ≡ None
-  spec_none e = ap (option_and_then (λ x. cond (has_type basis t x.domain) (Some (sequent_of a.hyps (open_with t 0 x.body))) None)) e
-
   module _ (x : Abstraction) (is : a.concl ≡ universal x) where
     spec_at : (k : Bool) → has_type basis t x.domain ≡ k → spec_of basis t a ≡ cond k (Some (sequent_of a.hyps (open_with t 0 x.body))) None
     spec_at k e =

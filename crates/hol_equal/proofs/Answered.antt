@@ -34,9 +34,6 @@ none basis o is = ap (over basis) is
 pub sym_applies : (a : Sequent) (s : TypeTree) (l r : Nameless) → a.concl ≡ equation s l r → sym_of a ≡ Some (symmetric a)
 sym_applies a s l r is = rw is (ap (option_map (reversed a.hyps)) (dest_eq_equation s l r))
 
-pub sym_none : (a : Sequent) → dest_eq a.concl ≡ None → sym_of a ≡ None
-sym_none a e = ap (option_map (reversed a.hyps)) e
-
 module _ (basis : Items) (s t : Nameless) where
   pub alpha_other : alpha_eq s t ≡ false → alpha_of basis s t ≡ None
   alpha_other e = ap (λ k. cond (k && is_typed basis t) (option_map (λ a. sequent_of no_hyps (equation a s t)) (type_over basis s)) None) e
