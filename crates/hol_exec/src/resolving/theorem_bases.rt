@@ -14,8 +14,8 @@ use crate::resolving::basis::basis_of;
 use crate::resolving::callee::{Callee, called};
 use crate::running::Setup;
 use hol_kernel::Basis;
-use hol_notation_tactics::{Role, TacCall, TacExpr, ThmExpr, calls_in, parts_of};
-use hol_resolve::{AnyQuotation, Quoted, Readings, WrittenArgs, parts_of_theorem, quotations_in};
+use hol_notation_tactics::{Role, TacCall, TacExpr, ThmExpr, calls_in, parts_of, parts_of_theorem};
+use hol_resolve::{AnyQuotation, Quoted, Readings, WrittenArgs, quotations_in};
 use hol_theory::{Key, Value};
 use std::alloc::{AllocError, Global};
 
