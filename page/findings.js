@@ -2,7 +2,7 @@
 // later report could take back: where a report above is missing, only what holds in each case is said.
 import { NUMBERS, explain } from './words.js';
 
-const OWN = [NUMBERS.syntax, NUMBERS.unknownTac]; // Refusals that never follow from another one.
+const OWN = [NUMBERS.syntax, NUMBERS.unknownTac]; // Refusals that are told as errors of their own wherever they stand.
 
 class Walk {
   constructor(theory) {

@@ -363,6 +363,22 @@ def of_nested_names():
     return session
 
 
+def of_nested_lists():
+    """Each expression is 199 lists around the one before it, up to 19,901 nodes: two equal theories of them, of which a third imports both, and drops."""
+    session, around = Session("compares and drops expressions that are nested in lists by their names"), lambda inner: "EVERY [" * 199 + inner + "]" * 199
+    names = [f"deftac D0 {around('NO_TAC')}"] + [f"deftac D{number} {around(f'D{number - 1}')}" for number in range(1, 100)]
+    for theory in "BA":
+        session.theory(theory, names)
+    session.add(request("new_theory", name="Z", at=2), OK)
+    for at, text in enumerate(["import A", "import B", "g N `p:bool`", "e TRY D99"]):
+        session.add(request("insert", theory="Z", at=at, text=text), OK)
+    for at, want in ((1, makes()), (3, shows("p", "p:bool"))):
+        session.add(request("report", theory="Z", at=at), want)
+    for theory in "ZAB":
+        session.add(request("drop_theory", name=theory), OK)
+    return session
+
+
 def of_chained_names(turns, want):
     """1,000 expressions, each of which is the name of the one before it, have one node each and take a turn each."""
     session = Session(f"runs 1,000 names in a chain, {turns} turns", ["--turns", str(turns)])
@@ -388,6 +404,7 @@ def generated():
         yield of_binders(count)
     yield of_named_sizes()
     yield of_nested_names()
+    yield of_nested_lists()
     yield of_chained_names(1_001, shows("p", "p:bool"))
     yield of_chained_names(1_000, TURN_LIMIT)
     yield of_cycles()

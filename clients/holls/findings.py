@@ -56,7 +56,7 @@ class _Proof:
 
 
 OWN = (protocol.SYNTAX, protocol.UNKNOWN_TAC)
-"""The refusals that never follow from another one: errors of their own wherever they stand."""
+"""The refusals that are told as errors of their own wherever they stand. (An unknown function may follow from a `deftac` that was refused above.)"""
 
 
 class _Walk:

@@ -9,7 +9,7 @@ import time
 import unittest
 
 from holls import files, names, server
-from holls.protocol import Goal, Goals, Refusal
+from holls.protocol import Goal, Goals
 from holls.prover import command, finding, ground, named, reading, retyping, scope, scripts, sequents, substituting, tables, trying, typed, writing
 from holls.prover.asking import Asker
 from holls.prover.finder import Finder
@@ -268,7 +268,7 @@ class OverTheProgram(unittest.TestCase):
 
 
 class Naming(Asker):
-    """Names stand for expressions in what is sent: so named functions on goals are tried over a program that may have no `deftac`."""
+    """Names stand for expressions in what is sent: so named functions on goals are tried without a file that names them."""
 
     functions = {"SPLIT_TAC": "EQ_TAC THEN STRIP_TAC", "TABLE_TAC": "REPEAT GEN_TAC THEN CASES_TAC THEN ASM_REWRITE_TAC []",
                  "CASES_TAC": "DISJ_CASES_TAC (SPEC `p:bool` MIDDLE)", "EXT_TAC": "MATCH_MP_TAC EXT THEN GEN_TAC", "HALVES": "CONJ_TAC"}
@@ -337,12 +337,6 @@ class NamedFunctions(unittest.TestCase):
         self.assertEqual(trying.pieces("A THEN B THENL [C; D]"), ["A THEN B THENL [C; D]"])
 
     def test_a_file_that_names_them(self):
-        """Where the program has `deftac`: it is asked."""
-        self.asker.copy(["deftac SPLIT_UP EQ_TAC THEN STRIP_TAC"])
-        has_them = not isinstance(self.asker.report(0), Refusal)
-        self.asker.forget()
-        if not has_them:
-            self.skipTest("the program has no deftac")
         with tempfile.TemporaryDirectory() as folder:
             path = pathlib.Path(folder) / "A.hol"
             path.write_text("deftac SPLIT_UP EQ_TAC THEN STRIP_TAC;;\ng A `((?x:A. P x) /\\ r) <=> (?x:A. P x /\\ r)`;;\n")
