@@ -26,7 +26,8 @@ returns-then-alpha_equivalent-clause-formula c =
 pub returns-then-alpha_equivalent-clause-formulas :
     goal.returns-then-alpha_equivalent-clause-formulas
 returns-then-alpha_equivalent-clause-formulas c =
-    let left = c.search.left.now in
-    let older = c.in-Some.older.now in
-    formulas_both c.search.newer.items older c.add_copies.new.to.items c.in_ok-add_copies.ensures c.search.invariant.formulas
-    (formulas_after left older c.in-Some.p.now c.in-Some.ensures.cases.0 c.search.invariant.rest)
+    let newer = c.search.invariant.formulas in
+    let older = formulas_after c.search.left.now c.in-Some.older.now c.in-Some.p.now c.in-Some.ensures.cases.0 c.search.invariant.rest in
+    let left = c.search.invariant.rest in
+    let all = c.in_ok-add_copies.ensures in
+    search (formulas_both)
