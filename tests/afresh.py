@@ -31,15 +31,17 @@ from model.refusals import Unmodelled
 HERE = pathlib.Path(__file__).resolve().parent
 FORMS = {
     "general": random_documents.general, "edits": random_documents.general, "scopes": random_documents.scopes, "edits of scopes": random_documents.scopes,
-    "faults": random_documents.faults, "syntax": random_documents.syntax, "tokens": random_documents.tokens, "sizes": random_documents.sizes,
-    "turns": random_documents.turns_filled, "limits": random_documents.limits, "equal": alike.equal, "shapes": alike.shapes,
+    "declarations": random_documents.declarations, "faults": random_documents.faults, "syntax": random_documents.syntax, "turns": random_documents.turns_filled,
+    "equal": alike.equal, "shapes": alike.shapes, "bound names": random_documents.bound_names, "sizes": random_documents.sizes, "tokens": random_documents.tokens,
+    "large goals": random_documents.large_goals, "chains": random_documents.chains, "nested": random_documents.nested,
 }  # fmt: skip
-OFTEN = ["general", "edits", "scopes", "edits of scopes", "faults", "syntax", "equal", "shapes", "turns"]
+# Documents of these forms take long.
+LARGE = ["sizes", "tokens", "large goals", "chains", "nested"]
 TURNS = (1, 2, 3, 5, 7, 10, 15, 40, 120, 300, 1_000, 10_000)
 # The numbers by which each command has to have been refused, and the cases that one number has.
 WANTED = {
     "deftac": (1, 2, 5, 6, 7, 8, 9, 10, 13, 14), "e": (1, 3, 5, 6, 7, 8, 9, 13, 14, 15, 16, 17, 18), "g": (1, 2, 7, 8, 9, 10), "import": (2, 4, 21), "qed": (3, 19),
-    "b": (3, 20), "r": (3, 16), "oops": (3,), "new_type": (2, 10), "new_constant": (2, 9, 10), "new_axiom": (2, 7, 8, 9, 10), "new_definition": (2, 7, 9, 10, 11),
+    "b": (3, 20), "r": (3, 16), "oops": (3,), "new_type": (2, 10), "new_constant": (2, 9, 10), "new_axiom": (2, 7, 8, 9, 10), "new_definition": (2, 7, 9, 10, 11, 12),
 }  # fmt: skip
 CASES = [
     *("6: an unknown name", "6: a function without arguments", "6: a function with other arguments", "6: a function that gets a theorem"),
@@ -87,7 +89,8 @@ class Counts:
         for word in [*WANTED, "no command"]:
             kinds = {str(kind): count for (of, kind), count in self.words.items() if of == word}
             refused = ", ".join(f"{number} {kinds[number]}" for number in sorted(filter(str.isdigit, kinds), key=int))
-            print(f"  {word}: {', '.join(f'{kind} {kinds[kind]}' for kind in ('goals', 'made') if kind in kinds)}; refused by {refused or 'none'}")
+            accepted = "".join(f"{kind} {kinds[kind]}, " for kind in ("goals", "made") if kind in kinds)
+            print(f"  {word}: {accepted}refused by {refused}")
         print("  cases: " + ", ".join(f"{case} {self.cases[case]}" for case in CASES))
         print("  edits: " + ", ".join(f"{kind} {count}" for kind, count in sorted(self.edits.items())))
 
@@ -244,8 +247,8 @@ def one_form(given):
 def all_forms(given):
     counts = Counts()
     for at, turns in enumerate(TURNS):
-        plan = [(form, seed) for seed in range(given.rounds) for form in OFTEN]
-        plan += [(form, at) for form in FORMS if form not in OFTEN]
+        plan = [(form, seed) for seed in range(given.rounds) for form in FORMS if form not in LARGE]
+        plan += [(LARGE[(at + more) % len(LARGE)], at) for more in (0, 1, 3)]
         tried(given.program, turns, plan, counts)
     return counts
 
@@ -274,7 +277,7 @@ def try_changes(given):
 def main():
     words = argparse.ArgumentParser(description=__doc__, formatter_class=argparse.RawDescriptionHelpFormatter)
     words.add_argument("--program", default=str(watched.BUILT))
-    words.add_argument("--rounds", type=int, default=2, help="documents of each form for each number of turns")
+    words.add_argument("--rounds", type=int, default=1, help="documents of each form for each number of turns")
     words.add_argument("--changed", nargs="?", const="", help="tries the changed rules whose name has this in it")
     words.add_argument("--form", choices=sorted(FORMS), help="documents of one form, until one differs")
     words.add_argument("--turns", type=int, default=120, help="for these")

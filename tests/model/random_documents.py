@@ -1,7 +1,7 @@
 """Documents by chance. Each form takes a random.Random and the number of turns, and gives theories in order, each a name and its texts."""
 
 from model.documents import Observed, copied, run_command
-from model.random_texts import SEARCH, Writer
+from model.random_texts import SEARCH, Writer, in_parentheses
 from model.theories import Theory
 
 
@@ -56,6 +56,47 @@ def scopes(rng, turns):
             texts += [f"e {SEARCH}", "qed", "oops"] if rng.random() < 0.5 else ["oops"]
         document.append((name, texts))
     return document
+
+
+# ---- what is declared
+
+TYPES = ["bool", "A", "t", "A->bool", "t u", "(A,B) u", "bool bool", "fun", "t->A", "(A,t) fun"]
+LEFT = ["", " x", " x y", " (x:bool) y", " x x", " (x:A) (y:A)", " (x:t) y", ":bool", " x:bool", " (x:t u)"]
+RIGHT = ["T", "x", "\\x:A. T", "(\\x:A. T) = (\\x. T)", "x /\\ y", "\\x. x", "f x", "x x", "!x:A. x = x", "x = y", "c", "d /\\ c", "x:t", "x:t u", "!x:bool. c ==> x", "\\x' x'. x'"]
+STATED = ["c", "c ==> d", "x:A = x", "!x:t. x = x", "x x", "x:t u", "T", "x:A", "f x", "d = c", "!x:bool. ?x:bool. x", "\\x:A. x", "!p. p ==> p", "k = k"]
+
+
+def declaration(rng):
+    name, theorem = rng.choice(["c", "d", "t", "k", "c", "d", "T", "ONE_ONE"]), rng.choice(["AX", "AY", "AZ", "AX", "AY", "AZ", "TRUTH", "T_DEF", "c"])
+    return rng.choice(
+        [
+            f"new_type {rng.choice(['t', 't', 'u', 'u', 'bool', 'ind', 'c', 'A'])} {rng.choice([0, 0, 1, 1, 2, 16, 17])}",
+            f"new_constant {name} `:{rng.choice(['bool', 'bool', *TYPES])}`",
+            f"new_axiom {theorem} `{rng.choice(STATED)}`",
+            f"new_definition {theorem} `{name}{rng.choice(LEFT)} {rng.choice(['=', '=', '<=>'])} {in_parentheses(rng.choice(RIGHT))}`",
+            rng.choice([f"g {theorem} `{rng.choice(STATED)}`", f"g {theorem} `{rng.choice(STATED)}`", f"e {SEARCH}", "qed", "oops", "r 1", "b", "oops", "e ALL_TAC"]),
+            f"deftac {name} MP_TAC {theorem}",
+        ]
+    )
+
+
+def declarations(rng, turns):
+    """Types, constants, axioms and definitions, also with names that are taken, in theories that import others."""
+    document = []
+    for name in "ABCDEF":
+        texts = [declaration(rng) for _ in range(rng.randint(2, 9))] + ["oops"] * (rng.random() < 0.8)
+        if rng.random() < 0.3:
+            texts += [f"g {rng.choice(['AZ', 'AW'])} `T`", "e ACCEPT_TAC TRUTH", "r 1", "qed"]
+        document.append((name, texts + [f"import {rng.choice([*document, ('Z', [])])[0]}" for _ in range(rng.choice([0, 1, 2]))]))
+    return document
+
+
+def bound_names(rng, turns):
+    """Goals that steps change by names of bound variables alone, or not at all."""
+    goal, other = rng.choice([("!x:bool. x", "!y:bool. y"), ("?x:bool. x", "?x':bool. x'"), ("(\\x:A. T) = (\\x. T)", "(\\y:A. T) = (\\y. T)")])
+    changes = [f"SUBST1_TAC (ASSUME `({goal}) = ({other})`)", "ALL_TAC", "DISCH_TAC THEN POP_ASSUM MP_TAC", "POP_ASSUM ASSUME_TAC", "FIRST_ASSUM SUBST1_TAC"]
+    texts = [f"g K `(({goal}) = ({other})) ==> ({goal}) ==> ({goal})`", "e DISCH_TAC", "e DISCH_TAC"]
+    return [("A", texts + [f"e CHANGED_TAC ({rng.choice(changes)})" for _ in range(8)])]
 
 
 # ---- refusals, of which the least number is told
@@ -278,7 +319,3 @@ def nested(rng, turns):
     around = lambda inner: "TRY (" * depth + inner + ")" * depth
     texts += [f"deftac F{k} {around(f'F{k - 1}')}" for k in range(1, rng.choice([3, 12]))]
     return [("A", [*texts, "g K `T /\\ T`", "e F1", "e F2", "e REPEAT F2", f"e {around('F2')}", "e CHANGED_TAC F2"])]
-
-
-def limits(rng, turns):
-    return rng.choice([large_goals, chains, nested])(rng, turns)
