@@ -37,7 +37,7 @@ FORMS = {
 }  # fmt: skip
 # Documents of these forms take long.
 LARGE = ["sizes", "tokens", "large goals", "chains", "nested"]
-TURNS = (1, 2, 3, 5, 7, 10, 15, 40, 120, 300, 1_000, 10_000)
+TURNS = (1, 2, 3, 5, 7, 10, 15, 40, 120, 300, 1_000, 3_000)
 # The numbers by which each command has to have been refused, and the cases that one number has.
 WANTED = {
     "deftac": (1, 2, 5, 6, 7, 8, 9, 10, 13, 14), "e": (1, 3, 5, 6, 7, 8, 9, 13, 14, 15, 16, 17, 18), "g": (1, 2, 7, 8, 9, 10), "import": (2, 4, 21), "qed": (3, 19),
@@ -248,7 +248,9 @@ def all_forms(given):
     counts = Counts()
     for at, turns in enumerate(TURNS):
         plan = [(form, seed) for seed in range(given.rounds) for form in FORMS if form not in LARGE]
-        plan += [(LARGE[(at + more) % len(LARGE)], at) for more in (0, 1, 3)]
+        plan += [("declarations", given.rounds + more) for more in range(4)]
+        large = [LARGE[(at + more) % len(LARGE)] for more in (0, 2, 3)]
+        plan += [(form, at) for form in large if turns < 1_000 or form != "large goals"]
         tried(given.program, turns, plan, counts)
     return counts
 

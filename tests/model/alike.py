@@ -53,9 +53,11 @@ FAMILIES = [
     ],
     [f"MP_TAC {text}" for text in ("(INST_TYPE [`:t`, `:A`] L1)", "L1", "(INST_TYPE [`:B`, `:A`] L1)", "(INST_TYPE [`:t`, `:B`] L1)", "(INST_TYPE [`:B`, `:A`; `:t`, `:A`] L1)")],
     [f"MP_TAC ({text})" for text in ("SPEC `c:bool` Q1", "SPEC `c:bool` Q2", "REFL `c:bool`", "SYM (REFL `c:bool`)", "SPEC `(c:bool)` Q3", "REFL `p:bool`")],
+    [f"{name}_TAC {theorem}" for name in ("MP", "ACCEPT") for theorem in ("Q1", "Q2", "Q3")],
+    [f"MP_TAC (SPEC `p:bool` (ASSUME `!{name}:bool. q`))" for name in "xy"],
     [*(f"{word} A1" for word in ("TRY", "REPEAT", "CHANGED_TAC", "REPLICATE_TAC 1", "REPLICATE_TAC 0")), "TRY A2", "TRY U1", "EVERY [A1]", "FIRST [A1]", "A1", "EVERY [A1; A1]"],
 ]  # fmt: skip
-LEAVES = "ALL_TAC A1 A2 U1 V1 NO_TAC CONJ_TAC DISJ1_TAC DISJ2_TAC AB AB2 OR1 EV1 TR1".split()
+LEAVES = "ALL_TAC A1 A2 A1 A2 U1 V1 NO_TAC CONJ_TAC DISJ1_TAC DISJ2_TAC AB AB2 OR1 EV1 TR1".split()
 
 
 def filled(rng, form):
@@ -117,7 +119,7 @@ def two_alike(rng):
         form = rng.choice(["{}", "{}", "{}", "TRY ({})"])
         return form.format(rng.choice(family)), form.format(rng.choice(family))
     leaves, word = [rng.choice(LEAVES) if rng.random() < 0.8 else rng.choice(family) for _ in range(rng.choice([2, 3, 3, 4, 5]))], rng.choice(["THEN", "ORELSE", None])
-    others = [*leaves[:-1], rng.choice(LEAVES)] if rng.random() < 0.2 else leaves
+    others = rng.choice([leaves, leaves, [*leaves[:-1], rng.choice(LEAVES)], [{"A1": "A2", "A2": "A1"}.get(leaf, leaf) for leaf in leaves]])
     left = bracketed(rng, leaves, word)
     lists = [f"{kind} [{'; '.join(leaves)}]" for kind in ("EVERY", "FIRST")]
     return left, rng.choice([*lists, left, *(bracketed(rng, others, word) for _ in range(5))])

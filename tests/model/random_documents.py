@@ -93,7 +93,8 @@ def declarations(rng, turns):
 
 def bound_names(rng, turns):
     """Goals that steps change by names of bound variables alone, or not at all."""
-    goal, other = rng.choice([("!x:bool. x", "!y:bool. y"), ("?x:bool. x", "?x':bool. x'"), ("(\\x:A. T) = (\\x. T)", "(\\y:A. T) = (\\y. T)")])
+    nested = ("!x:bool. ?x':bool. x /\\ x'", "!y:bool. ?y':bool. y /\\ y'")
+    goal, other = rng.choice([nested, ("!x:bool. x", "!y:bool. y"), ("?x:bool. x", "?x':bool. x'"), ("(\\x:A. T) = (\\x. T)", "(\\y:A. T) = (\\y. T)")])
     changes = [f"SUBST1_TAC (ASSUME `({goal}) = ({other})`)", "ALL_TAC", "DISCH_TAC THEN POP_ASSUM MP_TAC", "POP_ASSUM ASSUME_TAC", "FIRST_ASSUM SUBST1_TAC"]
     texts = [f"g K `(({goal}) = ({other})) ==> ({goal}) ==> ({goal})`", "e DISCH_TAC", "e DISCH_TAC"]
     return [("A", texts + [f"e CHANGED_TAC ({rng.choice(changes)})" for _ in range(8)])]
@@ -294,6 +295,7 @@ def large_goals(rng, turns):
     texts = [f"deftac BIG MP_TAC (ASSUME {large})", "deftac ST MP_TAC TRUTH", f"deftac PP ASSUME_TAC (REFL {large})", "deftac P2 ASSUME_TAC AND_CLAUSES"]
     texts += [f"g K {theorem}", "e DISCH_TAC", "e REPEAT ST", "e TRY (REPLICATE_TAC 3000 ST)", "e POP_ASSUM MP_TAC", "e BIG", "oops"]
     texts += ["g K `T`", f"e REPLICATE_TAC {rng.choice([5, 60, 200, 9999])} P2", "e TRY (REPEAT P2)", f"e SUBGOAL_THEN {large} ASSUME_TAC", "e PP THEN PP THEN PP", "e REPEAT PP"]
+    texts += [f"e REPLICATE_TAC 60 (ASSUME_TAC (REFL {large}))"]
     return [("A", texts)]
 
 
