@@ -1,9 +1,9 @@
-"""Random documents and random edits, each reply to which is compared byte for byte with that of rules written anew: those of tests/model, which come from docs/NOTATION.md,
-docs/TACTICS.md and docs/PROTOCOL.md alone. It has the whole language but `new_basic_type_definition` and the functions on goals that rewrite; a document in which one of
-these is run is left out.
+"""Random documents and random edits, each reply to which is compared byte for byte with that of rules written anew: those of tests/model, which come from
+docs/NOTATION.md, docs/TACTICS.md and docs/PROTOCOL.md alone. They are those of the whole language but `new_basic_type_definition` and the functions on goals that
+rewrite; a document in which one of these is run is left out.
 
-Compared are the reports on all commands, the theorems, all bases, and the number of `stats`, which may rise by the commands that an edit affects and no more: those that
-read something else than they did. At the end each refusal, and each of the cases that one number has, has to have come (`WANTED`).
+Compared are the reports on all commands, the theorems, all bases, and the number of `stats`, which may rise by the commands that an edit affects and no more: those
+that read something else than they did. At the end each refusal of each command, and each of the cases that one number has, has to have come (`WANTED`, `CASES`).
 
 With `--changed` it changes one rule after the other (changed_rules.py). Each changed rule has to be told apart, which shows that the documents reach it."""
 
@@ -37,6 +37,7 @@ FORMS = {
 }  # fmt: skip
 # Documents of these forms take long.
 LARGE = ["sizes", "tokens", "large goals", "chains", "nested"]
+FREED = ["x", "y", "a", "x'", "a'", "x''"]
 TURNS = (1, 2, 3, 5, 7, 10, 15, 40, 120, 300, 1_000, 3_000)
 # The numbers by which each command has to have been refused, and the cases that one number has.
 WANTED = {
@@ -199,7 +200,7 @@ def edit_of_names(rng, document):
     if constants and rng.random() < 0.5:
         return remove(document, place, rng.choice(constants))
     at = rng.randrange(min(4, len(document[place][1])) + 1)
-    return put(document, place, at, f"new_constant {rng.choice(['x', 'y', 'a', chr(97) + chr(39), 'x' + chr(39)])} `:bool`", "insert")
+    return put(document, place, at, f"new_constant {rng.choice(FREED)} `:bool`", "insert")
 
 
 def any_edit(rng, document, found):

@@ -102,6 +102,7 @@ def bound_names(rng, turns):
 
 # ---- refusals, of which the least number is told
 
+
 def conjunctions(count):
     return "p" + " /\\ p" * count
 
@@ -206,6 +207,7 @@ def tokens(rng, turns):
 
 
 # ---- limits
+
 
 def sized(rng, nodes):
     """An expression of so many nodes, one at least, of those that a ladder names."""
