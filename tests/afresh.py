@@ -27,11 +27,12 @@ from model.expressions import forget
 from model.grammar import COMMANDS
 from model.random_texts import CONSTANTS, Writer
 from model.refusals import Unmodelled
+from model.steps import ARGUMENTS, FUNCTIONS, unmodelled
 
 HERE = pathlib.Path(__file__).resolve().parent
 FORMS = {
     "general": random_documents.general, "edits": random_documents.general, "scopes": random_documents.scopes, "edits of scopes": random_documents.scopes,
-    "declarations": random_documents.declarations, "faults": random_documents.faults, "syntax": random_documents.syntax, "turns": random_documents.turns_filled,
+    "declarations": random_documents.declarations, "functions": random_documents.functions, "faults": random_documents.faults, "syntax": random_documents.syntax, "turns": random_documents.turns_filled,
     "equal": alike.equal, "shapes": alike.shapes, "bound names": random_documents.bound_names, "sizes": random_documents.sizes, "tokens": random_documents.tokens,
     "large goals": random_documents.large_goals, "chains": random_documents.chains, "nested": random_documents.nested,
 }  # fmt: skip
@@ -44,11 +45,17 @@ WANTED = {
     "deftac": (1, 2, 5, 6, 7, 8, 9, 10, 13, 14), "e": (1, 3, 5, 6, 7, 8, 9, 13, 14, 15, 16, 17, 18), "g": (1, 2, 7, 8, 9, 10), "import": (2, 4, 21), "qed": (3, 19),
     "b": (3, 20), "r": (3, 16), "oops": (3,), "new_type": (2, 10), "new_constant": (2, 9, 10), "new_axiom": (2, 7, 8, 9, 10), "new_definition": (2, 7, 9, 10, 11, 12),
 }  # fmt: skip
+TACTICALS = ["THENL", "CHANGED_TAC", "FIRST", "DISCH_THEN", "POP_ASSUM", "FIRST_ASSUM"]
+MODELLED = [name for name, function in FUNCTIONS.items() if function is not unmodelled]
+ALWAYS_FIT = ["ALL_TAC", "MP_TAC", "ASSUME_TAC", "STRIP_ASSUME_TAC", "PURE_REWRITE_TAC"]
+RESTING = [name for name in MODELLED if "t" in ARGUMENTS[name]]
 CASES = [
     *("6: an unknown name", "6: a function without arguments", "6: a function with other arguments", "6: a function that gets a theorem"),
     *("6: a named expression with other arguments", "6: a named expression that gets a theorem"),
     *(f"10: a {kind} that is {stands}" for kind in ("type", "const", "thm", "tac") for stands in ("made", "built in")),
     *("13: a reading", "13: a theorem", "13: a named expression", "13: a run", "13: a run inside a named expression", "18: a run", "18: a run inside a named expression"),
+    *(f"14: {rule}" for rule in ("ASSUME", "SPEC", "SYM", "CONJUNCT1", "CONJUNCT2", "MP", "INST_TYPE")),
+    *(f"15: {name}" for name in RESTING), *(f"17: {name}" for name in (*MODELLED, *TACTICALS) if name not in ALWAYS_FIT), *(f"fits: {name}" for name in MODELLED if name != "NO_TAC"),
     *("15: inside a named expression", "17: inside a named expression", *(f"21: another {kind} stands" for kind in ("type", "const", "thm", "tac"))),
 ]
 
@@ -79,6 +86,8 @@ class Counts:
                 word = (row.text.split() or [""])[0]
                 kind = row.report.get("refusal") or next(kind for kind in ("goals", "made") if kind in row.report)
                 self.words[word if word in COMMANDS else "no command", kind] += 1
+                if kind in (14, 15, 17):
+                    self.cases[f"{kind}: {row.report['arg']}"] += 1
 
     def lacks(self):
         """What has to come, and didn't."""
@@ -249,7 +258,7 @@ def all_forms(given):
     counts = Counts()
     for at, turns in enumerate(TURNS):
         plan = [(form, seed) for seed in range(given.rounds) for form in FORMS if form not in LARGE]
-        plan += [("declarations", given.rounds + more) for more in range(4)]
+        plan += [(form, given.rounds + more) for form in ("declarations", "functions") for more in range(4)]
         large = [LARGE[(at + more) % len(LARGE)] for more in (0, 2, 3)]
         plan += [(form, at) for form in large if turns < 1_000 or form != "large goals"]
         tried(given.program, turns, plan, counts)

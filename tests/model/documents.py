@@ -15,7 +15,7 @@ Row = collections.namedtuple("Row", "text report reads")
 
 
 class Observed:
-    """What running came upon: cases of refusals, sizes of named expressions, turns that were taken."""
+    """What running came upon: cases of refusals and functions that fitted, sizes of named expressions, turns that were taken."""
 
     def __init__(self):
         self.cases, self.sizes, self.turns = collections.Counter(), [], []
@@ -109,6 +109,7 @@ class Running:
             raise Refusal(it.number, "", f"a run{' inside a named expression' if it.is_inside else ''}")
         finally:
             self.reads[4] = {name: name in run.standing for name in run.tested}
+            self.observed.cases.update(f"fits: {name}" for name in run.fitted)
         self.observed.turns.append(self.turns - run.left)
         history.append((left + goals[1:], basis | self.resolved.basis()))
         return self.goals()

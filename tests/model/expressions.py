@@ -38,11 +38,11 @@ def is_unchanged(goals, goal):
 
 
 class Run:
-    """One run of an expression: the turns that are left, the constants that stand, and the names that were tested for one. An expression is run by the method of its
-    word, on its parts and a goal."""
+    """One run of an expression: the turns that are left, the constants that stand, the names that were tested for one, and the functions that fitted. An expression is
+    run by the method of its word, on its parts and a goal."""
 
     def __init__(self, turns, standing):
-        self.left, self.standing, self.tested = turns, standing, []
+        self.left, self.standing, self.tested, self.fitted = turns, standing, [], set()
 
     def pay(self):
         if self.left == 0:
@@ -168,6 +168,7 @@ class Run:
         goals = FUNCTIONS[name](self, goal, *arguments, *handed)
         if goals is None:
             raise Unfit(17, name)
+        self.fitted.add(name)
         if any(goal_size(left) > LIMIT for left in goals):
             raise Stop(13)
         return goals

@@ -2,6 +2,7 @@
 
 from model.documents import Observed, copied, run_command
 from model.random_texts import SEARCH, Writer, in_parentheses
+from model.steps import ARGUMENTS, FUNCTIONS, unmodelled
 from model.theories import Theory
 
 
@@ -16,6 +17,36 @@ def general(rng, turns):
         document.append((name, texts))
         earlier[name] = theory
     return document
+
+
+# ---- each function on goals that it fits, and on others
+
+ASSUMED = ["F", "p \\/ q", "?x:bool. x /\\ p", "p <=> q", "p:bool", "p /\\ q", "!x:bool. x ==> x", "?y:A. y = x", "(f:bool->bool) p = g p", "T"]
+CONCLUDED = [
+    "p /\\ q", "p \\/ q", "p ==> q", "~p", "p <=> q", "(f:bool->bool) p = f q", "(f:bool->bool) p = g p", "(f:A->B) x = g y", "!x:bool. x ==> x", "?x:bool. x", "x:A = x", "T", "q:bool",
+]  # fmt: skip
+MISRULED = ["CONJUNCT1 TRUTH", "CONJUNCT2 TRUTH", "SYM TRUTH", "SPEC `T` TRUTH", "MP TRUTH TRUTH", "INST_TYPE [`:A`, `:bool`] TRUTH", "ASSUME `x:A`"]
+LISTED = [f"{name} THENL [{'; '.join(['ALL_TAC'] * count)}]" for name in ("CONJ_TAC", "EQ_TAC", "MK_COMB_TAC", "ALL_TAC") for count in range(4)]
+
+
+def step(rng, assumed):
+    """A function on goals with what it takes; a theorem has a hypothesis that is assumed, or another."""
+    term = rng.choice([assumed, rng.choice(ASSUMED)])
+    arguments = {"q": "`p:bool`", "t": f"(ASSUME `{term}`)", "p": "(`p:bool`, `y:bool`)", "qt": f"`y:bool` (ASSUME `{term}`)", "": "", "l": "[]"}
+    name = rng.choice([name for name, function in FUNCTIONS.items() if function is not unmodelled])
+    given = f"`{term}`" if name == "UNDISCH_TAC" else "`y:bool`" if name == "X_GEN_TAC" else arguments[ARGUMENTS[name]]
+    return rng.choice([f"{name} {given}"] * 8 + [f"MP_TAC ({rng.choice(MISRULED)})", rng.choice(LISTED)])
+
+
+def functions(rng, turns):
+    texts = []
+    for _ in range(8):
+        assumed = rng.choice(ASSUMED)
+        texts += [f"g K `({assumed}) ==> {in_parentheses(rng.choice(CONCLUDED))}`", "e DISCH_TAC"]
+        for _ in range(12):
+            texts += [f"e {step(rng, assumed)}", *["b"] * (rng.random() < 0.6)]
+        texts.append("oops")
+    return [("A", texts)]
 
 
 # ---- names that steps free, and constants of such names
