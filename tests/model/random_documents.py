@@ -21,30 +21,40 @@ def general(rng, turns):
 
 # ---- each function on goals that it fits, and on others
 
-ASSUMED = ["F", "p \\/ q", "?x:bool. x /\\ p", "p <=> q", "p:bool", "p /\\ q", "!x:bool. x ==> x", "?y:A. y = x", "(f:bool->bool) p = g p", "T"]
-CONCLUDED = [
-    "p /\\ q", "p \\/ q", "p ==> q", "~p", "p <=> q", "(f:bool->bool) p = f q", "(f:bool->bool) p = g p", "(f:A->B) x = g y", "!x:bool. x ==> x", "?x:bool. x", "x:A = x", "T", "q:bool",
-]  # fmt: skip
+# What is assumed or concluded, with functions that fit it.
+ASSUMED = {
+    "F": ["CONTR_TAC"], "p \\/ q": ["DISJ_CASES_TAC"], "?x:bool. x /\\ p": ["CHOOSE_TAC", "X_CHOOSE_TAC"], "?y:A. y = x": ["CHOOSE_TAC"], "p <=> q": ["SUBST1_TAC"],
+    "p ==> q": ["ASSUME_TAC"], "(f:bool->bool) p = g p": ["SUBST1_TAC"], "p:bool": ["ACCEPT_TAC", "UNDISCH_TAC"], "p /\\ q": ["STRIP_ASSUME_TAC"], "!x:bool. x ==> x": ["UNDISCH_TAC"], "T": ["STRIP_ASSUME_TAC"],
+}  # fmt: skip
+CONCLUDED = {
+    "p /\\ q": ["CONJ_TAC", "STRIP_TAC"], "p \\/ q": ["DISJ1_TAC", "DISJ2_TAC"], "p ==> q": ["DISCH_TAC", "STRIP_TAC"], "~p": ["DISCH_TAC", "STRIP_TAC"], "p <=> q": ["EQ_TAC"],
+    "(f:bool->bool) p = f q": ["AP_TERM_TAC", "MK_COMB_TAC"], "(f:bool->bool) p = g p": ["AP_THM_TAC", "MK_COMB_TAC"], "(f:A->B) x = g y": ["MK_COMB_TAC"], "T": ["ACCEPT_TAC"],
+    "!x:bool. x ==> x": ["GEN_TAC", "X_GEN_TAC"], "?x:bool. x": ["EXISTS_TAC"], "x:A = x": ["REFL_TAC", "EQ_TAC"], "p:bool": ["ACCEPT_TAC", "SPEC_TAC"],
+}  # fmt: skip
 MISRULED = ["CONJUNCT1 TRUTH", "CONJUNCT2 TRUTH", "SYM TRUTH", "SPEC `T` TRUTH", "MP TRUTH TRUTH", "INST_TYPE [`:A`, `:bool`] TRUTH", "ASSUME `x:A`"]
+RULED = [
+    "SYM (ASSUME `p <=> q`)", "MP (ASSUME `p ==> q`) (ASSUME `p:bool`)", "CONJUNCT1 (ASSUME `p /\\ q`)", "CONJUNCT2 (ASSUME `p /\\ q`)", "SPEC `q:bool` (ASSUME `!x:bool. x ==> x`)",
+    "INST_TYPE [`:bool`, `:A`] (ASSUME `?y:A. y = x`)",
+]  # fmt: skip
 LISTED = [f"{name} THENL [{'; '.join(['ALL_TAC'] * count)}]" for name in ("CONJ_TAC", "EQ_TAC", "MK_COMB_TAC", "ALL_TAC") for count in range(4)]
 
 
-def step(rng, assumed):
-    """A function on goals with what it takes; a theorem has a hypothesis that is assumed, or another."""
-    term = rng.choice([assumed, rng.choice(ASSUMED)])
+def step(rng, assumed, fitting):
+    """A function on goals with what it takes, one that fits or any; a theorem has a hypothesis that is assumed, or another."""
+    term = rng.choice([assumed, assumed, rng.choice(list(ASSUMED))])
     arguments = {"q": "`p:bool`", "t": f"(ASSUME `{term}`)", "p": "(`p:bool`, `y:bool`)", "qt": f"`y:bool` (ASSUME `{term}`)", "": "", "l": "[]"}
-    name = rng.choice([name for name, function in FUNCTIONS.items() if function is not unmodelled])
+    name = rng.choice(rng.choice([fitting, [name for name, function in FUNCTIONS.items() if function is not unmodelled]]))
     given = f"`{term}`" if name == "UNDISCH_TAC" else "`y:bool`" if name == "X_GEN_TAC" else arguments[ARGUMENTS[name]]
-    return rng.choice([f"{name} {given}"] * 8 + [f"MP_TAC ({rng.choice(MISRULED)})", rng.choice(LISTED)])
+    return rng.choice([f"{name} {given}"] * 8 + [f"MP_TAC ({rng.choice(rules)})" for rules in (MISRULED, RULED, RULED)] + [rng.choice(LISTED)])
 
 
 def functions(rng, turns):
     texts = []
     for _ in range(8):
-        assumed = rng.choice(ASSUMED)
-        texts += [f"g K `({assumed}) ==> {in_parentheses(rng.choice(CONCLUDED))}`", "e DISCH_TAC"]
+        assumed, concluded = rng.choice(list(ASSUMED)), rng.choice(list(CONCLUDED))
+        texts += [f"g K `({assumed}) ==> ({concluded})`", "e DISCH_TAC"]
         for _ in range(12):
-            texts += [f"e {step(rng, assumed)}", *["b"] * (rng.random() < 0.6)]
+            texts += [f"e {step(rng, assumed, ASSUMED[assumed] + CONCLUDED[concluded])}", *["b"] * (rng.random() < 0.6)]
         texts.append("oops")
     return [("A", texts)]
 
