@@ -42,7 +42,7 @@ LISTED = [f"{name} THENL [{'; '.join(['ALL_TAC'] * count)}]" for name in ("CONJ_
 def step(rng, assumed, fitting):
     """A function on goals with what it takes, one that fits or any; a theorem has a hypothesis that is assumed, or another."""
     term = rng.choice([assumed, assumed, rng.choice(list(ASSUMED))])
-    arguments = {"q": "`p:bool`", "t": f"(ASSUME `{term}`)", "p": "(`p:bool`, `y:bool`)", "qt": f"`y:bool` (ASSUME `{term}`)", "": "", "l": "[]"}
+    arguments = {"q": "`p:bool`", "t": f"(ASSUME `{term}`)", "p": rng.choice(["(`p:bool`, `y:bool`)", "(`p:bool`, `q:bool`)"]), "qt": f"`y:bool` (ASSUME `{term}`)", "": "", "l": "[]"}
     name = rng.choice(rng.choice([fitting, [name for name, function in FUNCTIONS.items() if function is not unmodelled]]))
     given = f"`{term}`" if name == "UNDISCH_TAC" else "`y:bool`" if name == "X_GEN_TAC" else arguments[ARGUMENTS[name]]
     return rng.choice([f"{name} {given}"] * 8 + [f"MP_TAC ({rng.choice(rules)})" for rules in (MISRULED, RULED, RULED)] + [rng.choice(LISTED)])
