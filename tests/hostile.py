@@ -55,9 +55,9 @@ class List:
         self.expects(took <= seconds, f"{took:.2f} seconds for {[line[:80] for line in lines[:3]]} ..")
         return replies
 
-    def puts(self, name, commands, seconds=1.0):
-        """Puts a theory of these commands."""
-        self.ask([request("new_theory", name=name, at=0)])
+    def puts(self, name, commands, seconds=1.0, place=0):
+        """Puts a theory of these commands at a place among the theories."""
+        self.ask([request("new_theory", name=name, at=place)])
         for at, text in enumerate(commands):
             told = self.ask([request("insert", theory=name, at=at, text=text)], seconds)
             self.expects(told == [OK] or self.is_ended, f"insert of {text[:80]}")
@@ -133,7 +133,9 @@ def is_wanted(want, reply):
 def of_case(program, case, stack=WHOLE):
     """A case's commands, the report on each, and all of it dropped."""
     session = List(f"{case.name}, {stack >> 20} MB of stack", program, ["--turns", str(case.turns)], stack)
-    session.puts("A", case.commands, case.seconds)
+    if case.earlier:
+        session.puts("B", case.earlier, case.seconds)
+    session.puts("A", case.commands, case.seconds, 1 if case.earlier else 0)
     last, asked = len(case.commands) - 1, range(0, len(case.commands), max(1, len(case.commands) // 20))
     session.told = [session.ask([request("report", theory="A", at=at)], case.seconds) for at in sorted({*asked, last})]
     for reply in session.told[-1]:
@@ -186,7 +188,8 @@ def main():
     if words.depth:
         return depths(words.program)
     lists = [] if words.only else [of_texts(words.program, words.texts), of_lines(words.program)]
-    lists += [of_case(words.program, case) for case in [*large_terms.shared(), *large_terms.at_limits()] if words.only in case.name]
+    wide = [*large_terms.shared(), *large_terms.at_limits(), *large_terms.many_citations()]
+    lists += [of_case(words.program, case) for case in wide if words.only in case.name]
     lists += [it for case in deep_cases() if words.only in case.name for it in of_deep(words.program, case)]
     passed, failed = sum(it.passed for it in lists), sum(len(it.faults) for it in lists)
     for it in lists:

@@ -1,11 +1,12 @@
 """Documents of the deepest and the largest things that the limits allow, and of what would be exponentially larger if it were written out.
 
-A case is its name, its commands, and what the report on the last one has to be: the number of a refusal, `goals` or `made`. The sizes follow from
-docs/PROTOCOL.md: 20,000 nodes, 4,096 tokens, 200 brackets that are open, 1,000 commands, so many turns."""
+A case is its name, its commands, and what the report on the last one has to be: the number of a refusal, `goals` or `made`; some have commands of a
+theory B that stands earlier. The sizes follow from docs/PROTOCOL.md: 20,000 nodes, 4,096 tokens, 200 brackets that are open, 1,000 commands, so many
+turns."""
 
 import collections
 
-Case = collections.namedtuple("Case", "name commands want turns seconds", defaults=(10_000, 1.0))
+Case = collections.namedtuple("Case", "name commands want turns seconds earlier", defaults=(10_000, 1.0, ()))
 
 LIST = ["new_type list 1"]
 PAIR = "new_constant pair `:A->(A->A->B)->B`"
@@ -78,6 +79,27 @@ def at_limits():
     yield Case("998 steps, and an end", ["g N `T`", *["e ALL_TAC"] * 997, "e ACCEPT_TAC TRUTH", "qed"], "made")
 
 
+def many_citations():
+    """As many theorems as a command can cite, in an expression that gets a name: on what each of them rests by itself is kept with it."""
+    axioms = [f"new_axiom A{k} `T`" for k in range(300)]
+    unused = "REWRITE_TAC [" + joined("; ", (f"A{k}" for k in range(300))) + "]"
+
+    def resting(statement, proof):
+        return [*axioms, f"g L `{statement}`", f"e FIRST [{proof}; {unused}]", "qed"]
+
+    def named(theorems):
+        return "deftac D REWRITE_TAC [" + joined("; ", theorems) + "]"
+
+    one = [*resting("T", "ACCEPT_TAC TRUTH"), named(["L"] * 2_000)]
+    yield Case("a theorem on 300 axioms cited 2,000 times, named", one, "made")
+    yield Case("the same, imported twice", ["import B", "import B"], "made", earlier=one)
+    general = [*resting("!x:bool. T", "GEN_TAC THEN ACCEPT_TAC TRUTH"), "new_constant c `:bool`"]
+    yield Case("650 instances of a theorem on 300 axioms by a constant, named", [*general, named(["SPEC `c` L"] * 650)], "made")
+    earlier, own = ([f"new_axiom {name}{k} `T`" for k in range(count)] for name, count in (("B", 1_000), ("C", 998)))
+    names = [it.split()[1] for it in [*earlier, *own]]
+    yield Case("1,998 theorems cited, named", ["import B", *own, named(names)], "made", earlier=earlier)
+
+
 def deep_terms():
     """The deepest terms and types that a text can have: each goal is shown, and each is a goal's part when it is dropped."""
     yield Case("3,990 times ~", ["g N `" + "~" * 3_990 + "p`"], "goals")
@@ -122,6 +144,21 @@ def deep_expressions():
     yield Case("2,041 theorems in a list", ["g N `p:bool`", "e REWRITE_TAC [TRUTH" + "; TRUTH" * 2_040 + "]"], "goals")
 
 
+def instances(count):
+    """So many binders, each of which is a variable of the body, at another type: nothing is captured."""
+    others = joined(" ", (f"x{k}" for k in range(1, count)))
+    axiom = rf"new_axiom AX `P (\(x0:A) {others}. c x0 {others}):bool`"
+    return ["new_constant c `:" + "A->" * count + "bool`", axiom, "g N `T`", "e MP_TAC (INST_TYPE [`:B`,`:A`] AX)"]
+
+
+def capturing(count):
+    """So many binders, over a body in which the variable of each one's name and another type is free: the types become one."""
+    others = joined(" ", (f"x{k}" for k in range(1, count)))
+    arrows = "A->" * count + "bool`"
+    axiom = rf"new_axiom AX `!g. P (\(x0:B) {others}. d g x0 {others}):bool`"
+    return ["new_constant c `:" + arrows, "new_constant d `:bool->" + arrows, axiom, "g N `T`", f"e MP_TAC (INST_TYPE [`:A`,`:B`] (SPEC `c (x0:A) {others}` AX))"]
+
+
 def deep_runs():
     """Functions on goals, and what justifies them, on deep terms: taken apart, rewritten, reduced, instantiated, compared."""
     last = r"(T /\ T)"
@@ -152,6 +189,8 @@ def deep_runs():
     yield Case("900 binders that capture", [rf"g N `!x0:bool. P ((\y {captured}. y) x0):bool`", "e BETA_TAC"], "goals")
     at_a = "new_axiom AX `!" + joined(" ", (f"(x{k}:A)" for k in range(600))) + ". x0 = x0`"
     yield Case("600 binders at another type", [at_a, "g N `T`", "e MP_TAC (INST_TYPE [`:B->B`,`:A`] AX)"], "goals")
+    yield Case("2,000 binders over as many variables, at another type", instances(2_000), "goals")
+    yield Case("1,300 binders that capture at another type", capturing(1_300), "goals")
     types = [*LIST, "new_axiom AX `!x:A. x = x`", "g N `T`", "e MP_TAC (INST_TYPE [`:A" + " list" * 2_400 + "`,`:A`] AX)"]
     yield Case("an instance at a type of 2,400 lists", types, "goals")
     deeper = [*LIST, "new_axiom AX `!x:A. P x ==> T`", "g N `T`", "e MP_TAC (INST_TYPE [`:A" + " list" * 3_900 + "`,`:A`] AX)"]

@@ -10,18 +10,15 @@ use Rattle.hol_just.specs.Valid.{IsValid}
 use Rattle.hol_just.specs.declared.reason.Move.{Move}
 use Rattle.hol_just.proofs.Validity.{valid_none}
 use Rattle.hol_combine.specs.ExprValue.{ExprValue, exprs}
-use Rattle.hol_combine.specs.Runs.{KnownValue, RunValue, Leaves, Refuses, DoesNotFit, unchanged, count, as_many, run_each}
+use Rattle.hol_combine.specs.Runs.{KnownValue, RunValue, Refuses, DoesNotFit, count, as_many, run_each}
 use Rattle.hol_combine.specs.More.{run_list}
-use Rattle.hol_combine.specs.RunView.{used_by, IsError, IsValidRun}
+use Rattle.hol_combine.specs.RunView.{IsError, IsValidRun}
 use Rattle.hol_combine.specs.Going.{HasAtMost, IsKept, IsRefusal}
 use Rattle.hol_combine.specs.declared.ran.Ran.{Ran}
 use Rattle.hol_combine.specs.declared.ran.RunError.{RunError}
 use Rattle.hol_combine.specs.declared.ran.RunError.TheVariants as error
 
 -- ---- a goal that was left as it is
-
-pub kept_goals : (goal : GoalValue) (used : UsedValue) (r : Ran) → IsKept goal used r → unchanged goal used ≡ Leaves r.step.goals.items (used_by r)
-kept_goals goal used r k = λ i. Leaves (sym k.goals i) (sym k.used i)
 
 pub kept_valid : (suits : Items → Bool) (goal : GoalValue) (used : UsedValue) (r : Ran) → IsKept goal used r → IsValidRun suits (goal ∷ []) r
 kept_valid suits goal used r k =

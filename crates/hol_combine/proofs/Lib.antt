@@ -17,3 +17,4 @@ pub mod Continued
 pub mod SizeSums
 pub mod Uses
 pub mod Dropped
+pub mod Moves

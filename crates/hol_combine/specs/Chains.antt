@@ -1,5 +1,5 @@
 -- Which chain an expression is, and when a node has a chain as one list or number: so that no two nodes are one expression.
--- Source: this project; THEN groups to the left and ORELSE to the right, as in HOL Light (`parse_as_infix`).
+-- Source: this project, by whose grammar of expressions THEN groups to the left and ORELSE to the right.
 use Rattle.std.specs.Prelude.{◌≡◌, List, [], ◌∷◌}
 use Rattle.hol_combine.specs.declared.expr.ExprNode.{ExprNode}
 use Rattle.hol_combine.specs.declared.expr.ExprNode.TheVariants as node

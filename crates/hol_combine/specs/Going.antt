@@ -1,12 +1,9 @@
 -- How a run goes on from what was done before. Only private clauses speak of it.
-use Rattle.std.specs.Prelude.{◌≡◌, ◌≤◌, ℕ, zero, suc, Bool, IsTrue, List, [], ◌∷◌, ◌++◌, Result, Ok, Err}
-use Rattle.hol_kernel.specs.Items.{Items}
-use Rattle.hol_kernel.specs.Sequent.{no_hyps}
+use Rattle.std.specs.Prelude.{◌≡◌, ◌≤◌, ℕ, zero, suc, List, [], ◌∷◌, ◌++◌, Result, Ok, Err}
 use Rattle.hol_goal.specs.Goal.{GoalValue}
 use Rattle.hol_goal.specs.Answer.{UsedValue}
 use Rattle.hol_just.specs.Gives.{moved}
 use Rattle.hol_just.specs.Justifies.{CutsBy}
-use Rattle.hol_just.specs.Valid.{IsValid}
 use Rattle.hol_just.specs.declared.reason.Move.{Move}
 use Rattle.hol_combine.specs.Runs.{DoesNotFit}
 use Rattle.hol_combine.specs.RunView.{using, used_by, refusal_value}
@@ -24,16 +21,6 @@ HasAtMost turns error.Memory = Unit {0}
 abbrev pub LeavesAtMost : ℕ → Result Ran RunError → Type 0
 LeavesAtMost turns (Ok ran) = ran.left ≤ turns
 LeavesAtMost turns (Err e) = HasAtMost turns e
-
--- Moves that are valid to these goals become moves that are valid to those, over bases that suit more.
-abbrev pub GoesOn : (Items → Bool) → List Move → List GoalValue → List Move → List GoalValue → Type 0
-GoesOn more moves goals moves' goals' =
-    (suits : Items → Bool) (before : List GoalValue) → ((basis : Items) → IsTrue (suits basis) → IsTrue (more basis)) →
-    IsValid suits no_hyps moves before goals → IsValid suits no_hyps moves' before goals'
-
--- a run that went on from another
-abbrev pub GoesOnFrom : (Items → Bool) → Ran → Ran → Type 0
-GoesOnFrom more old new = GoesOn more old.step.just old.step.goals.items new.step.just new.step.goals.items
 
 -- a goal that was left as it is
 pub record IsKept (goal : GoalValue) (left : UsedValue) (ran : Ran) : Type 0 where

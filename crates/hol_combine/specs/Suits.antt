@@ -1,5 +1,5 @@
 -- What is asked of every call in an expression.
-use Rattle.std.specs.Prelude.{ℕ, Bool, true, ◌&&◌, Option, Some, None}
+use Rattle.std.specs.Prelude.{Bool, true, ◌&&◌, Option, Some, None}
 use Rattle.hol_terms.specs.Nameless.{Nameless}
 use Rattle.hol_goal.specs.Arguments.{TacArgsValue, Nothing, Term, Theorem}
 use Rattle.hol_kernel.specs.Items.{Items}
@@ -45,9 +45,6 @@ abbrev mutual
 -- the basis suits all arguments that are written
 abbrev pub suits_expr : ExprValue → Items → Bool
 suits_expr expr basis = all_calls (λ call. suits call.args basis) expr
-
-abbrev pub suits_exprs : ExprValues → Items → Bool
-suits_exprs ts basis = all_calls_of (λ call. suits call.args basis) ts
 
 abbrev pub suits_written : TheoremTacValue → Items → Bool
 suits_written called basis = suits (written called).args basis

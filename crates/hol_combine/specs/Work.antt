@@ -1,5 +1,5 @@
 -- Goals that are gone through, with what was done to them so far. Only private clauses speak of it.
-use Rattle.std.specs.Prelude.{◌≡◌, ℕ, List, [], ◌∷◌, ◌++◌, length, reverse, Option, Some, None}
+use Rattle.std.specs.Prelude.{◌≡◌, List, [], ◌∷◌, ◌++◌, length, reverse, Option, Some, None}
 use Rattle.hol_goal.specs.Goal.{GoalValue}
 use Rattle.hol_goal.specs.Answer.{UsedValue}
 use Rattle.hol_goal.specs.UsedView.{used_value}
@@ -30,6 +30,10 @@ with_next goal used w = record { done = w.done; waiting = goal ∷ w.waiting; mo
 abbrev pub IsNext : WorkValue → WorkValue → Option (GoalValue × Used) → Type 0
 IsNext old new None = (old.waiting ≡ []) × (new ≡ old)
 IsNext old new (Some taken) = old ≡ with_next taken.0 (used_value taken.1) new
+
+-- moves at the goal that was taken come after the others
+abbrev pub followed : WorkValue → List Move → WorkValue
+followed w moves = record w { moves = w.moves ++ moved (length w.done) moves }
 
 -- what a run left of the goal that was taken is done
 abbrev pub finished : WorkValue → List GoalValue → List Move → UsedValue → WorkValue

@@ -1,8 +1,8 @@
 //! Goals that are gone through, with what was done to them so far.
-ghost use Rattle.std.specs.Prelude.{◌≡◌, ◌++◌, ◌∷◌, [], OnOk};
+ghost use Rattle.std.specs.Prelude.{◌≡◌, OnOk};
 ghost use Rattle.hol_goal.specs.UsedView.{used_value};
 ghost use Rattle.hol_combine.specs.RunView.{used_by};
-ghost use Rattle.hol_combine.specs.Work.{work_value, started, IsNext, finished, again, kept};
+ghost use Rattle.hol_combine.specs.Work.{work_value, started, IsNext, followed, finished, again, kept};
 
 use crate::ran::Ran;
 use hol_goal::{Goal, Used};
@@ -49,6 +49,17 @@ impl Work {
         Some((goal, used))
     }
 
+    // The moves of what was done to the goal that was taken come last. Where no goal is done and no move was made before, none is copied.
+    fn follow(&mut self, just: Just) -> Result<(), AllocError>
+        ensures { OnOk result (work_value self.new ≡ followed (work_value self.old) just) }
+    {
+        if self.done.is_empty() && self.just.moves().is_empty() {
+            self.just = just;
+            return Ok(());
+        }
+        self.just.then_at(self.done.len(), &just)
+    }
+
     /// What was done to the goal that was taken is done.
     pub(crate) fn finish(&mut self, ran: Ran) -> Result<(), AllocError>
         ensures { OnOk result (work_value self.new ≡ finished (work_value self.old) ran.step.goals.items ran.step.just (used_by ran)) }
@@ -56,7 +67,7 @@ impl Work {
         let Ran { step, left, tested } = ran;
         let Step { goals, just } = step;
         let mut goals = goals;
-        self.just.then_at(self.done.len(), &just)?;
+        self.follow(just)?;
         self.done.append(&mut goals)?;
         self.used = Used { left, tested };
         Ok(())
@@ -69,7 +80,7 @@ impl Work {
         let Ran { step, left, tested } = ran;
         let Step { goals, just } = step;
         let mut goals = goals;
-        self.just.then_at(self.done.len(), &just)?;
+        self.follow(just)?;
         goals.reverse();
         self.waiting.append(&mut goals)?;
         self.used = Used { left, tested };

@@ -1,6 +1,7 @@
 -- What replacing each topmost redex comes to, by what it comes to in the parts.
 use Rattle.std.proofs.Common.{◌≡◌, ℕ, ◌+◌, List, [], ◌∷◌, min, refl, ap, sym, ◌∙◌, subst, Some, None}
-use Rattle.std.specs.Prelude.{Result, Ok, Err, IfOk, IfErr}
+use Rattle.std.specs.Prelude.{Result, Ok, Err, IfOk, IfErr, Box}
+use Rattle.std.specs.Global.{Global}
 use Rattle.std.specs.Option.{option_map, option_or}
 use Rattle.hol_types.specs.Tree.{TypeTree, type_size}
 use Rattle.hol_types.specs.Fun.{fun_type}
@@ -13,7 +14,7 @@ use Rattle.hol_conv.specs.declared.redexes.Redexes.{Redexes}
 use Rattle.hol_conv.specs.declared.ended.Ended.{Ended}
 use Rattle.hol_conv.specs.declared.error.ConvError.{ConvError}
 use Rattle.hol_conv.specs.declared.error.ConvError.TheVariants.{Limit, TooLarge, Memory}
-use Rattle.hol_conv.specs.Ends.{TellsEnd}
+use Rattle.hol_conv.specs.Ends.{TellsBoxed}
 use Rattle.hol_conv.specs.Redexes.{contraction, IsOutside}
 use Rattle.hol_conv.specs.Turns.{Outcome, finished, turn}
 use Rattle.hol_conv.specs.Once.{and_then, once}
@@ -25,17 +26,17 @@ use Rattle.hol_conv.proofs.Parts.{body_same, domain_same, rebuilt}
 abbrev Var : Type 0
 Var = List ℕ × TypeTree
 
-told : (R : Result Ended ConvError) (o p : Outcome) → o ≡ p → TellsEnd R p → TellsEnd R o
-told R o p e h = subst (λ z. TellsEnd R z) (sym e) h
+told : (R : Result (Box Ended Global) ConvError) (o p : Outcome) → o ≡ p → TellsBoxed R p → TellsBoxed R o
+told R o p e h = subst (λ z. TellsBoxed R z) (sym e) h
 
 -- an end that is no result ends what comes after
-stops : (e : ConvError) (go : Nameless → ℕ → Outcome) (p : Outcome) → TellsEnd (Err e) p → TellsEnd (Err e) (and_then go p)
+stops : (e : ConvError) (go : Nameless → ℕ → Outcome) (p : Outcome) → TellsBoxed (Err e) p → TellsBoxed (Err e) (and_then go p)
 stops Limit go p h = ap (and_then go) h
 stops TooLarge go p h = ap (and_then go) h
 stops Memory go p h = tt
 
 -- an end that is told of by its parts
-pub told_parts : (R : Result Ended ConvError) (o : Outcome) (u : Named) (n : ℕ) → IfErr R (λ e. e ≡ Memory) → IfOk R (λ r. r.term ≡ u) → IfOk R (λ r. r.left ≡ n) → o ≡ finished (nameless [] u) n → TellsEnd R o
+pub told_parts : (R : Result (Box Ended Global) ConvError) (o : Outcome) (u : Named) (n : ℕ) → IfErr R (λ e. e ≡ Memory) → IfOk R (λ r. r.value.term ≡ u) → IfOk R (λ r. r.value.left ≡ n) → o ≡ finished (nameless [] u) n → TellsBoxed R o
 told_parts (Ok r) o u n e t l h = h ∙ (λ i. finished (nameless [] (sym t i)) (sym l i))
 told_parts (Err Limit) o u n e t l h = absurd (cc)
 told_parts (Err TooLarge) o u n e t l h = absurd (cc)
@@ -94,7 +95,7 @@ module _ (r : Redexes) where
   redex_is o left (comb f x) u h = rw h refl
   redex_is o left (abs v b) u h = rw h refl
 
-  pub redex_paid : (R : Result Ended ConvError) (o left : ℕ) (t : Named) (u : Nameless) → contraction r [] (nameless [] t) ≡ Some u → TellsEnd R (paid_beside [] o left u) → TellsEnd R (once_beside (contraction r) [] o left (nameless [] t))
+  pub redex_paid : (R : Result (Box Ended Global) ConvError) (o left : ℕ) (t : Named) (u : Nameless) → contraction r [] (nameless [] t) ≡ Some u → TellsBoxed R (paid_beside [] o left u) → TellsBoxed R (once_beside (contraction r) [] o left (nameless [] t))
   redex_paid R o left t u h = told R (once_beside (contraction r) [] o left (nameless [] t)) (paid_beside [] o left u) (redex_is o left t u h)
 
   inside_is : (o left : ℕ) (t : Named) → contraction r [] (nameless [] t) ≡ None → once_beside (contraction r) [] o left (nameless [] t) ≡ inner_once (contraction r) [] o left (nameless [] t)
@@ -103,14 +104,14 @@ module _ (r : Redexes) where
   inside_is o left (comb f x) h = rw h refl
   inside_is o left (abs v b) h = rw h refl
 
-  pub inside_told : (R : Result Ended ConvError) (o left : ℕ) (t : Named) → contraction r [] (nameless [] t) ≡ None → TellsEnd R (inner_once (contraction r) [] o left (nameless [] t)) → TellsEnd R (once_beside (contraction r) [] o left (nameless [] t))
+  pub inside_told : (R : Result (Box Ended Global) ConvError) (o left : ℕ) (t : Named) → contraction r [] (nameless [] t) ≡ None → TellsBoxed R (inner_once (contraction r) [] o left (nameless [] t)) → TellsBoxed R (once_beside (contraction r) [] o left (nameless [] t))
   inside_told R o left t h = told R (once_beside (contraction r) [] o left (nameless [] t)) (inner_once (contraction r) [] o left (nameless [] t)) (inside_is o left t h)
 
-  pub inside_comb : (R : Result Ended ConvError) (o left : ℕ) (f x t : Named) → t ≡ comb f x → contraction r [] (nameless [] t) ≡ None → TellsEnd R (inner_once (contraction r) [] o left (nameless [] (comb f x))) → TellsEnd R (once_beside (contraction r) [] o left (nameless [] t))
-  inside_comb R o left f x t e h k = inside_told R o left t h (subst (λ z. TellsEnd R (inner_once (contraction r) [] o left (nameless [] z))) (sym e) k)
+  pub inside_comb : (R : Result (Box Ended Global) ConvError) (o left : ℕ) (f x t : Named) → t ≡ comb f x → contraction r [] (nameless [] t) ≡ None → TellsBoxed R (inner_once (contraction r) [] o left (nameless [] (comb f x))) → TellsBoxed R (once_beside (contraction r) [] o left (nameless [] t))
+  inside_comb R o left f x t e h k = inside_told R o left t h (subst (λ z. TellsBoxed R (inner_once (contraction r) [] o left (nameless [] z))) (sym e) k)
 
-  pub inside_abs : (R : Result Ended ConvError) (o left : ℕ) (v : List ℕ × TypeTree) (b t : Named) → t ≡ abs v b → contraction r [] (nameless [] t) ≡ None → TellsEnd R (inner_once (contraction r) [] o left (nameless [] (abs v b))) → TellsEnd R (once_beside (contraction r) [] o left (nameless [] t))
-  inside_abs R o left v b t e h k = inside_told R o left t h (subst (λ z. TellsEnd R (inner_once (contraction r) [] o left (nameless [] z))) (sym e) k)
+  pub inside_abs : (R : Result (Box Ended Global) ConvError) (o left : ℕ) (v : List ℕ × TypeTree) (b t : Named) → t ≡ abs v b → contraction r [] (nameless [] t) ≡ None → TellsBoxed R (inner_once (contraction r) [] o left (nameless [] (abs v b))) → TellsBoxed R (once_beside (contraction r) [] o left (nameless [] t))
+  inside_abs R o left v b t e h k = inside_told R o left t h (subst (λ z. TellsBoxed R (inner_once (contraction r) [] o left (nameless [] z))) (sym e) k)
 
   pub variable_kept : (o left m : ℕ) (v : List ℕ × TypeTree) (t u : Named) → t ≡ var v → u ≡ t → m ≡ left → contraction r [] (nameless [] t) ≡ None → once_beside (contraction r) [] o left (nameless [] t) ≡ finished (nameless [] u) m
   variable_kept o left m v t u e k l h = inside_is o left t h ∙ ap (λ z. inner_once (contraction r) [] o left (nameless [] z)) e ∙ kept_as (nameless [] (var v)) left m t u (ap (nameless []) e) k l
@@ -127,7 +128,7 @@ module _ (r : Redexes) where
     function_at : once_beside (contraction r) [] (beside o (term_size [] (nameless [] x))) left (nameless [] f) ≡ once_beside (contraction r) [] p left (nameless [] f)
     function_at = ap (λ z. once_beside (contraction r) [] z left (nameless [] f)) (sym (counted o p k (term_size [] (nameless [] x)) size is))
 
-    pub function_stops : (e : ConvError) → TellsEnd (Err e) (once_beside (contraction r) [] p left (nameless [] f)) → TellsEnd (Err e) (inner_once (contraction r) [] o left (nameless [] (comb f x)))
+    pub function_stops : (e : ConvError) → TellsBoxed (Err e) (once_beside (contraction r) [] p left (nameless [] f)) → TellsBoxed (Err e) (inner_once (contraction r) [] o left (nameless [] (comb f x)))
     function_stops e h = stops e (λ g more. and_then (λ y rest. finished (app g y) rest) (once_beside (contraction r) [] (beside o (term_size [] g)) more (nameless [] x))) (once_beside (contraction r) [] (beside o (term_size [] (nameless [] x))) left (nameless [] f)) (told (Err e) _ _ function_at h)
 
     module _ (q l m : ℕ) (g : Named) (function : once_beside (contraction r) [] p left (nameless [] f) ≡ finished (nameless [] g) m) (other : l ≡ min (term_size [] (nameless [] g)) 20001) (at : q ≡ min (o + (1 + l)) 20001) where
@@ -136,7 +137,7 @@ module _ (r : Redexes) where
           ap (and_then (λ g more. and_then (λ y rest. finished (app g y) rest) (once_beside (contraction r) [] (beside o (term_size [] g)) more (nameless [] x)))) (function_at ∙ function)
           ∙ ap (λ z. and_then (λ y rest. finished (app (nameless [] g) y) rest) (once_beside (contraction r) [] z m (nameless [] x))) (sym (counted o q l (term_size [] (nameless [] g)) other at))
 
-      pub argument_stops : (e : ConvError) → TellsEnd (Err e) (once_beside (contraction r) [] q m (nameless [] x)) → TellsEnd (Err e) (inner_once (contraction r) [] o left (nameless [] (comb f x)))
+      pub argument_stops : (e : ConvError) → TellsBoxed (Err e) (once_beside (contraction r) [] q m (nameless [] x)) → TellsBoxed (Err e) (inner_once (contraction r) [] o left (nameless [] (comb f x)))
       argument_stops e h = told (Err e) _ _ argument_at (stops e (λ y rest. finished (app (nameless [] g) y) rest) (once_beside (contraction r) [] q m (nameless [] x)) h)
 
       pub parts_end : (n : ℕ) (y u : Named) → once_beside (contraction r) [] q m (nameless [] x) ≡ finished (nameless [] y) n → u ≡ comb g y → inner_once (contraction r) [] o left (nameless [] (comb f x)) ≡ finished (nameless [] u) n
@@ -149,12 +150,12 @@ module _ (r : Redexes) where
         (λ i. once_beside (contraction r) (sym (domain_same v w b c same) i ∷ []) (sym (counted o p k (type_size v.1) size is) i) left (body_same v w b c same i))
         ∙ once_close (contraction r) w (commutes r w out) [] p left (nameless [] c)
 
-    closed_stops : (e : ConvError) (z : Outcome) → TellsEnd (Err e) z → TellsEnd (Err e) (closed_outcome (close w 0) z)
+    closed_stops : (e : ConvError) (z : Outcome) → TellsBoxed (Err e) z → TellsBoxed (Err e) (closed_outcome (close w 0) z)
     closed_stops Limit z h = ap (closed_outcome (close w 0)) h
     closed_stops TooLarge z h = ap (closed_outcome (close w 0)) h
     closed_stops Memory z h = tt
 
-    pub body_stops : (e : ConvError) → TellsEnd (Err e) (once_beside (contraction r) [] p left (nameless [] c)) → TellsEnd (Err e) (inner_once (contraction r) [] o left (nameless [] (abs v b)))
+    pub body_stops : (e : ConvError) → TellsBoxed (Err e) (once_beside (contraction r) [] p left (nameless [] c)) → TellsBoxed (Err e) (inner_once (contraction r) [] o left (nameless [] (abs v b)))
     body_stops e h =
         stops e (λ d rest. finished (lam (base_of v.0) v.1 d) rest) (once_beside (contraction r) (v.1 ∷ []) (beside o (type_size v.1)) left (nameless (v ∷ []) b))
         (told (Err e) _ _ body_at (closed_stops e (once_beside (contraction r) [] p left (nameless [] c)) h))
@@ -165,7 +166,7 @@ module _ (r : Redexes) where
         ∙ ap (λ z. finished z n) (rebuilt v w b c d same ∙ ap (nameless []) (sym e))
 
 -- ---- the whole term
-pub told_whole : (contract : Contract) (R : Result Ended ConvError) (turns : ℕ) (t : Nameless) → TellsEnd R (once_beside contract [] 0 turns t) → TellsEnd R (once contract [] (λ u. u) turns t)
+pub told_whole : (contract : Contract) (R : Result (Box Ended Global) ConvError) (turns : ℕ) (t : Nameless) → TellsBoxed R (once_beside contract [] 0 turns t) → TellsBoxed R (once contract [] (λ u. u) turns t)
 told_whole contract R turns t = told R (once contract [] (λ u. u) turns t) (once_beside contract [] 0 turns t) (once_counts contract turns t)
 
 pub ruleset parts = (nothing_kept, redex_paid, inside_comb, inside_abs, variable_kept, constant_kept)

@@ -69,6 +69,6 @@ fn take(
     ensures traces { OnOk result ((turn : TraceNode) × LeadsThrough (reverse place.old.frames.items) redex.node.value turn × IsAfter node.old turn node.new) }
 {
     let turn = place.trace(alloc, redex.node)?;
-    append(alloc, node, Box::into_inner(turn))?;
+    append(alloc, node, turn)?;
     place.put(alloc, redexes, levels, redex.term)
 }

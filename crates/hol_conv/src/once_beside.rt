@@ -4,7 +4,7 @@ ghost use Rattle.hol_terms.specs.Named.{comb, abs, named_type};
 ghost use Rattle.hol_terms.specs.Nameless.{nameless};
 ghost use Rattle.hol_conv.specs.Redexes.{contraction};
 ghost use Rattle.hol_conv.specs.Beside.{paid_beside, once_beside, inner_once};
-ghost use Rattle.hol_conv.specs.Ends.{TellsEnd};
+ghost use Rattle.hol_conv.specs.Ends.{TellsBoxed};
 ghost use Rattle.hol_conv.specs.Tracing.{Traces, IsParts, IsBody, redex_givens};
 ghost use Rattle.hol_conv.specs.declared.trace_node.TraceNode.TheVariants.{Same};
 ghost use Rattle.hol_conv.specs.declared.error.ConvError.TheVariants.{Memory};
@@ -29,11 +29,11 @@ pub(crate) fn once_beside(
     t: &Term,
     outside: u32,
     left: u32,
-) -> Result<Ended, ConvError>
+) -> Result<Box<Ended>, ConvError>
     requires counted { outside ≤ 20001 }
-    ensures tells { TellsEnd result (once_beside (contraction redexes.now) [] outside left (nameless [] t.now)) }
-    ensures typed { IfOk result (λ r. named_type r.term ≡ named_type t.now) }
-    ensures traces { IfOk result (λ r. Traces (redex_givens redexes.now) r.node.value (nameless [] t.now) (nameless [] r.term)) }
+    ensures tells { TellsBoxed result (once_beside (contraction redexes.now) [] outside left (nameless [] t.now)) }
+    ensures typed { IfOk result (λ r. named_type r.value.term ≡ named_type t.now) }
+    ensures traces { IfOk result (λ r. Traces (redex_givens redexes.now) r.value.node.value (nameless [] t.now) (nameless [] r.value.term)) }
 {
     if !redexes.may_have_redex(t) {
         return kept(alloc, t, left);
@@ -51,17 +51,15 @@ pub(crate) fn once_beside(
 
 // The end of a part that has no redex.
 #[inline(never)]
-fn kept(alloc: Global, t: &Term, left: u32) -> Result<Ended, ConvError>
-    ensures term { IfOk result (λ r. r.term ≡ t.now) }
-    ensures left { IfOk result (λ r. r.left ≡ left) }
-    ensures node { IfOk result (λ r. r.node.value ≡ Same) }
+fn kept(alloc: Global, t: &Term, left: u32) -> Result<Box<Ended>, ConvError>
+    ensures term { IfOk result (λ r. r.value.term ≡ t.now) }
+    ensures left { IfOk result (λ r. r.value.left ≡ left) }
+    ensures node { IfOk result (λ r. r.value.node.value ≡ Same) }
     ensures memory { IfErr result (λ e. e ≡ Memory) }
 {
-    Ok(Ended {
-        term: t.copy()?,
-        left,
-        node: TraceNode::boxed(alloc, TraceNode::Same)?,
-    })
+    let term = t.copy()?;
+    let node = TraceNode::boxed(alloc, TraceNode::Same)?;
+    Ok(Ended { term, left, node }.boxed(alloc)?)
 }
 
 // The end of a part that is a redex.
@@ -73,25 +71,30 @@ fn at_redex(
     t: &Term,
     outside: u32,
     left: u32,
-) -> Result<Ended, ConvError>
+) -> Result<Box<Ended>, ConvError>
     requires counted { outside ≤ 20001 }
     requires redex { contraction redexes.now [] (nameless [] t.now) ≡ None → ⊥ }
-    ensures tells { TellsEnd result (once_beside (contraction redexes.now) [] outside left (nameless [] t.now)) }
-    ensures typed { IfOk result (λ r. named_type r.term ≡ named_type t.now) }
-    ensures traces { IfOk result (λ r. Traces (redex_givens redexes.now) r.node.value (nameless [] t.now) (nameless [] r.term)) }
+    ensures tells { TellsBoxed result (once_beside (contraction redexes.now) [] outside left (nameless [] t.now)) }
+    ensures typed { IfOk result (λ r. named_type r.value.term ≡ named_type t.now) }
+    ensures traces { IfOk result (λ r. Traces (redex_givens redexes.now) r.value.node.value (nameless [] t.now) (nameless [] r.value.term)) }
 {
     match redexes.contract(alloc, t)? {
-        Some(redex) => paid_beside(redex, outside, left),
+        Some(redex) => paid_beside(alloc, redex, outside, left),
         None => unreachable!(),
     }
 }
 
 // The turn in which the part becomes this term.
-fn paid_beside(redex: Contracted, outside: u32, left: u32) -> Result<Ended, ConvError>
+fn paid_beside(
+    alloc: Global,
+    redex: Contracted,
+    outside: u32,
+    left: u32,
+) -> Result<Box<Ended>, ConvError>
     requires counted { outside ≤ 20001 }
-    ensures tells { TellsEnd result (paid_beside [] outside left (nameless [] redex.term)) }
-    ensures term { IfOk result (λ r. r.term ≡ redex.term) }
-    ensures node { IfOk result (λ r. r.node ≡ redex.node) }
+    ensures tells { TellsBoxed result (paid_beside [] outside left (nameless [] redex.term)) }
+    ensures term { IfOk result (λ r. r.value.term ≡ redex.term) }
+    ensures node { IfOk result (λ r. r.value.node ≡ redex.node) }
 {
     if left == 0 {
         return Err(ConvError::Limit);
@@ -99,11 +102,9 @@ fn paid_beside(redex: Contracted, outside: u32, left: u32) -> Result<Ended, Conv
     if outside + redex.term.size() > 20_000 {
         return Err(ConvError::TooLarge);
     }
-    Ok(Ended {
-        term: redex.term,
-        left: left - 1,
-        node: redex.node,
-    })
+    let Contracted { term, node } = redex;
+    let left = left - 1;
+    Ok(Ended { term, left, node }.boxed(alloc)?)
 }
 
 // The same in the function and then in the argument.
@@ -117,12 +118,12 @@ fn once_in_parts(
     x: &Term,
     outside: u32,
     left: u32,
-) -> Result<Ended, ConvError>
+) -> Result<Box<Ended>, ConvError>
     requires counted { outside ≤ 20001 }
     requires fits { named_type (comb f.now x.now) ≡ None → ⊥ }
-    ensures tells { TellsEnd result (inner_once (contraction redexes.now) [] outside left (nameless [] (comb f.now x.now))) }
-    ensures typed { IfOk result (λ r. named_type r.term ≡ named_type (comb f.now x.now)) }
-    ensures traces { IfOk result (λ r. Traces (redex_givens redexes.now) r.node.value (nameless [] (comb f.now x.now)) (nameless [] r.term)) }
+    ensures tells { TellsBoxed result (inner_once (contraction redexes.now) [] outside left (nameless [] (comb f.now x.now))) }
+    ensures typed { IfOk result (λ r. named_type r.value.term ≡ named_type (comb f.now x.now)) }
+    ensures traces { IfOk result (λ r. Traces (redex_givens redexes.now) r.value.node.value (nameless [] (comb f.now x.now)) (nameless [] r.value.term)) }
 {
     let function = once_beside(alloc, redexes, f, beside(outside, x.size()), left)?;
     let nodes = beside(outside, function.term.size());
@@ -132,20 +133,22 @@ fn once_in_parts(
 
 // The end of an application, by those of its function and its argument.
 #[inline(never)]
-fn in_application(alloc: Global, function: Ended, argument: Ended) -> Result<Ended, ConvError>
-    requires { named_type (comb function.term argument.term) ≡ None → ⊥ }
-    ensures term { IfOk result (λ r. r.term ≡ comb function.term argument.term) }
-    ensures left { IfOk result (λ r. r.left ≡ argument.left) }
-    ensures node { IfOk result (λ r. IsParts function.node.value argument.node.value r.node.value) }
+fn in_application(
+    alloc: Global,
+    function: Box<Ended>,
+    argument: Box<Ended>,
+) -> Result<Box<Ended>, ConvError>
+    requires { named_type (comb function.value.term argument.value.term) ≡ None → ⊥ }
+    ensures term { IfOk result (λ r. r.value.term ≡ comb function.value.term argument.value.term) }
+    ensures left { IfOk result (λ r. r.value.left ≡ argument.value.left) }
+    ensures node { IfOk result (λ r. IsParts function.value.node.value argument.value.node.value r.value.node.value) }
     ensures memory { IfErr result (λ e. e ≡ Memory) }
 {
-    let term = Term::application(alloc, &function.term, &argument.term)?;
-    let node = TraceNode::parts(alloc, function.node, argument.node)?;
-    Ok(Ended {
-        term,
-        left: argument.left,
-        node,
-    })
+    let function = Box::into_inner(function);
+    let Ended { term, left, node } = Box::into_inner(argument);
+    let term = Term::application(alloc, &function.term, &term)?;
+    let node = TraceNode::parts(alloc, function.node, node)?;
+    Ok(Ended { term, left, node }.boxed(alloc)?)
 }
 
 // The same in the body of the abstraction of `v`.
@@ -159,11 +162,11 @@ fn once_in_body(
     b: &Term,
     outside: u32,
     left: u32,
-) -> Result<Ended, ConvError>
+) -> Result<Box<Ended>, ConvError>
     requires counted { outside ≤ 20001 }
-    ensures tells { TellsEnd result (inner_once (contraction redexes.now) [] outside left (nameless [] (abs v.now b.now))) }
-    ensures typed { IfOk result (λ r. named_type r.term ≡ named_type (abs v.now b.now)) }
-    ensures traces { IfOk result (λ r. Traces (redex_givens redexes.now) r.node.value (nameless [] (abs v.now b.now)) (nameless [] r.term)) }
+    ensures tells { TellsBoxed result (inner_once (contraction redexes.now) [] outside left (nameless [] (abs v.now b.now))) }
+    ensures typed { IfOk result (λ r. named_type r.value.term ≡ named_type (abs v.now b.now)) }
+    ensures traces { IfOk result (λ r. Traces (redex_givens redexes.now) r.value.node.value (nameless [] (abs v.now b.now)) (nameless [] r.value.term)) }
 {
     let inside = redexes.opened(alloc, v, b)?;
     let nodes = beside(outside, v.ty().size());
@@ -173,19 +176,16 @@ fn once_in_body(
 
 // The end of an abstraction of `v`, by that of its body.
 #[inline(never)]
-fn in_abstraction(alloc: Global, v: &Variable, body: Ended) -> Result<Ended, ConvError>
-    ensures term { IfOk result (λ r. r.term ≡ abs v.now body.term) }
-    ensures left { IfOk result (λ r. r.left ≡ body.left) }
-    ensures node { IfOk result (λ r. IsBody v.now body.node.value r.node.value) }
+fn in_abstraction(alloc: Global, v: &Variable, body: Box<Ended>) -> Result<Box<Ended>, ConvError>
+    ensures term { IfOk result (λ r. r.value.term ≡ abs v.now body.value.term) }
+    ensures left { IfOk result (λ r. r.value.left ≡ body.value.left) }
+    ensures node { IfOk result (λ r. IsBody v.now body.value.node.value r.value.node.value) }
     ensures memory { IfErr result (λ e. e ≡ Memory) }
 {
-    let term = Term::abstraction(alloc, v, &body.term)?;
-    let node = TraceNode::body(alloc, v, body.node)?;
-    Ok(Ended {
-        term,
-        left: body.left,
-        node,
-    })
+    let Ended { term, left, node } = Box::into_inner(body);
+    let term = Term::abstraction(alloc, v, &term)?;
+    let node = TraceNode::body(alloc, v, node)?;
+    Ok(Ended { term, left, node }.boxed(alloc)?)
 }
 
 // The nodes beside a part, where there are `outside` beside the term and one more and `nodes` beside the part in it.

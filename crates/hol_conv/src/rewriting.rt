@@ -52,5 +52,5 @@ pub fn once(alloc: Global, rules: &RuleSet, term: &Term, turns: u32) -> Result<R
     ensures used { IfOk result (λ r. AreGivenIn (set_givens rules.now.rules.items) r.trace.used) }
 {
     let ended = once_beside(alloc, &Redexes::Rules(rules), term, 0, turns)?;
-    Ok(Rewritten::of(alloc, term, ended)?)
+    Ok(Rewritten::of(alloc, term, Box::into_inner(ended))?)
 }

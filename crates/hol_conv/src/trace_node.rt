@@ -125,11 +125,11 @@ impl TraceNode {
 pub(crate) fn append(
     alloc: Global,
     first: &mut TraceNode,
-    second: TraceNode,
+    second: Box<TraceNode>,
 ) -> Result<(), AllocError>
-    ensures { OnOk result (IsAfter first.old second first.new) }
+    ensures { OnOk result (IsAfter first.old second.value first.new) }
 {
-    match second {
+    match Box::into_inner(second) {
         TraceNode::Parts(g, y) => append_parts(alloc, first, g, y),
         TraceNode::Body(w, c) => append_body(alloc, first, w, c),
         TraceNode::Rule(r) => append_whole(alloc, first, TraceNode::Rule(r)),
@@ -152,8 +152,8 @@ fn append_parts(
 {
     match first {
         TraceNode::Parts(f, x) => {
-            append(alloc, f, Box::into_inner(g))?;
-            return append(alloc, x, Box::into_inner(y));
+            append(alloc, f, g)?;
+            return append(alloc, x, y);
         }
         TraceNode::Both(count, a, b) => {
             if b.count() < a.count() || b.ends_in_parts() {
@@ -185,7 +185,7 @@ fn append_body(
     match first {
         TraceNode::Body(v, b) => {
             if v.same(&w) {
-                return append(alloc, b, Box::into_inner(c));
+                return append(alloc, b, c);
             }
         }
         TraceNode::Both(count, a, b) => {

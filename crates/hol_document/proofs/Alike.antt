@@ -160,18 +160,3 @@ row_elsewhere setup before earlier s text row same h = record { parsed = h.parse
     gets (Reads (Direct command)) (Some own) tested outcome p h = absurd h
     gets (Breaks place) None tested outcome p h = h
     gets (Breaks place) (Some own) tested outcome p h = h
-
--- the same outcome after both, and with the proof the same where none is open after it
-pub go_on_alike : (drift next : DriftValue) (a b : StateValue) (outcome : OutcomeValue) → next.changed ≡ drift.changed → next.entries ≡ drift.entries
-    → (next.proof ≡ true → drift.proof ≡ false → newest_of (after a outcome).proof ≡ None) → (next.proof ≡ true → drift.proof ≡ false → newest_of (after b outcome).proof ≡ None)
-    → AreAlike drift a b → AreAlike next (after a outcome) (after b outcome)
-go_on_alike drift next a b outcome keys same p q h =
-    let on : AreAlike drift (after a outcome) (after b outcome) = next_alike drift a b outcome h in record {
-      apart = λ key k. on.apart key (subst (λ changed. IsApart changed key) keys k);
-      whole = λ e. on.whole (sym same ∙ e);
-      held = λ e. by e drift.proof refl;
-    }
-  where
-    by : next.proof ≡ true → (t : Bool) → drift.proof ≡ t → (after a outcome).proof ≡ (after b outcome).proof
-    by e true k = (next_alike drift a b outcome h).held k
-    by e false k = none_open (after a outcome).proof (after b outcome).proof (p e k) (q e k)

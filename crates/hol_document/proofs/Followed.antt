@@ -43,9 +43,6 @@ olds_append xs ys = ap (map rows_before) (map_more run_of xs ys) ∙ map_more ro
 text_lengths : (news olds : List StandingValue) → map text_of news ≡ map text_of olds → length news ≡ length olds
 text_lengths news olds e = sym (map_length text_of news) ∙ (ap length e ∙ map_length text_of olds)
 
-pub following_none : (setup : SetupValue) (earlier : List EndedTheory) (n : ℕ) → AreFollowing setup earlier [] n n []
-following_none setup earlier n = record { are = tt; texts_are = refl; few = omega arith }
-
 text_same : (t t' : StandingValue) → t'.name ≡ t.name → texts_of t'.slots ≡ texts_of t.slots → text_of t' ≡ text_of t
 text_same t t' n e = λ i. record { name = n i; commands = e i }
 

@@ -63,10 +63,6 @@ redone_append setup earlier s mid last olds olds' news news' n m r h k = record 
       rw sum (omega (arith, h.few, k.few));
 }
 
--- nothing yet
-pub redone_none : (setup : SetupValue) (earlier : List EndedTheory) (s : StateValue) (n : ℕ) → AreRedone setup earlier s [] [] n n [] s
-redone_none setup earlier s n = record { are = refl; texts_are = refl; few = omega arith }
-
 -- slots that stand at the state as they are
 pub redone_same : (setup : SetupValue) (earlier : List EndedTheory) (s last : StateValue) (slots : List SlotValue) (n : ℕ)
     → AreSlots setup earlier s slots last → AreRedone setup earlier s (map Some (rows_of slots)) (texts_of slots) n n slots last

@@ -1,21 +1,21 @@
 -- Slots of answers, and of rows that stand again.
-use Rattle.std.specs.Prelude.{◌≡◌, ◌≤◌, ◌+◌, ℕ, Bool, List, [], ◌∷◌, true, false, cond, Option, Some, None, Result, Ok, Err, IfOk, IfSome, refl}
+use Rattle.std.specs.Prelude.{◌≡◌, ◌≤◌, ◌+◌, ℕ, Bool, List, [], ◌∷◌, true, false, Option, Some, None, Result, Ok, Err, IfOk, IfSome, refl}
 use Rattle.std.specs.Map.{keys_of}
 use Rattle.std.proofs.Common.{ap, sym, ◌∙◌, subst}
 use Rattle.hol_theory.specs.Entry.{Entries}
 use Rattle.hol_theory.specs.Key.{KeyValue}
 use Rattle.hol_theory.specs.Theory.{IsTheory}
-use Rattle.hol_exec.specs.At.{IsOutcome, IsOutcomeAt}
+use Rattle.hol_exec.specs.At.{IsOutcome}
 use Rattle.hol_exec.specs.ChangedKeys.{AreApart}
 use Rattle.hol_exec.specs.CommandText.{LocalText, DirectText, Local, Direct}
 use Rattle.hol_exec.specs.Keys.{cited_keys, made_keys}
 use Rattle.hol_exec.specs.OutcomeValue.{OutcomeValue, after}
 use Rattle.hol_exec.specs.Reading.{ReadText, Reads, IsRead}
 use Rattle.hol_exec.specs.ReadsValue.{ReadsValue, values_of, reads_of, reads_at}
-use Rattle.hol_exec.specs.SameReads.{same_reads, same_tested, same_tested_are}
+use Rattle.hol_exec.specs.SameReads.{same_tested, same_tested_are}
 use Rattle.hol_exec.specs.Tested.{TestedValue, agrees}
 use Rattle.hol_exec.specs.Setup.{SetupValue}
-use Rattle.hol_exec.specs.StateValue.{StateValue, EndedTheory, AreTheories, newest_of}
+use Rattle.hol_exec.specs.StateValue.{StateValue, EndedTheory, newest_of}
 use Rattle.hol_document.specs.Affected.{counts_beside, counts_where, counts}
 use Rattle.hol_document.specs.Afresh.{Row, IsRow}
 use Rattle.hol_document.specs.Alike.{DriftValue, AreAlike, IsPassedOver}
@@ -25,11 +25,6 @@ use Rattle.std.proofs.lemmas.Bool.{false_from_ne_true}
 use Rattle.hol_document.proofs.Alike.{next_alike, row_told}
 
 -- ---- answers
-
--- an answer may come to the state
-pub answer_at : (setup : SetupValue) (earlier : List EndedTheory) (s : StateValue) (value : ReadText) (reads : Option ReadsValue) (tested : TestedValue) (outcome : OutcomeValue)
-    → AreTheories earlier → IsAnswer setup earlier s value reads tested outcome → IsOutcomeAt s outcome
-answer_at setup earlier s value reads tested outcome theories is = record { setup = setup; earlier = earlier; theories = theories; value = value; reads = reads; tested = tested; read = is.read; gets = is.gets }
 
 -- the slot of an answer
 pub answer_slot : (setup : SetupValue) (earlier : List EndedTheory) (s next : StateValue) (value : ReadText) (reads : Option ReadsValue) (tested : TestedValue) (outcome : OutcomeValue) (slot : SlotValue)
@@ -77,35 +72,12 @@ passed_over drift row command reads is read keyed held apart =
       held,
     )
 
--- the slot of a row that stands at the state
-pub row_slot : (setup : SetupValue) (earlier : List EndedTheory) (s next : StateValue) (slot : SlotValue)
-    → IsRow setup earlier s slot.text slot.row → next ≡ after s slot.row.outcome → slot.opened ≡ newest_of next.proof → IsTheory next.entries → IfSome slot.kept (λ kept. kept ≡ s)
-    → IsSlot setup earlier s slot
-row_slot setup earlier s next slot is e opened stands kept = record {
-  row = is;
-  opened = opened ∙ ap (λ (t : StateValue). newest_of t.proof) e;
-  stands = subst (λ (t : StateValue). IsTheory t.entries) e stands;
-  kept = kept;
-}
-
--- a command whose reads differ is counted
-pub counts_changed : (old new : ReadsValue) → same_reads old new ≡ false → counts_beside (Some old) (Some new) ≡ counts_beside None (Some new)
-counts_changed old new e = ap (λ b. cond b 0 1) e
-
 -- ---- one slot at the state of now
 
 -- the element that was the newest is that again, where the proof is the same
 pub opened_again : (drift : DriftValue) (s state : StateValue) (slot : SlotValue) → slot.opened ≡ newest_of (after s slot.row.outcome).proof → AreAlike drift s state
     → drift.proof ≡ true → slot.opened ≡ newest_of (after state slot.row.outcome).proof
 opened_again drift s state slot opened alike e = opened ∙ ap newest_of ((next_alike drift s state slot.row.outcome alike).held e)
-
--- the slot of a row that stands at the state
-pub kept_slot : (setup : SetupValue) (earlier : List EndedTheory) (s next : StateValue) (old new : SlotValue)
-    → IsRow setup earlier s old.text old.row → new.text ≡ old.text → new.row ≡ old.row → next ≡ after s old.row.outcome → new.opened ≡ newest_of next.proof → IsTheory next.entries
-    → IfSome new.kept (λ kept. kept ≡ s) → IsSlot setup earlier s new
-kept_slot setup earlier s next old new is text row e opened stands kept =
-    row_slot setup earlier s next new (subst (λ t. IsRow setup earlier s t new.row) (sym text) (subst (λ r. IsRow setup earlier s old.text r) (sym row) is))
-    (e ∙ ap (λ (r : Row). after s r.outcome) (sym row)) opened stands kept
 
 -- what is run again is counted: no row of the text at the state is passed over
 pub run_counts : (setup : SetupValue) (earlier : List EndedTheory) (s : StateValue) (old new : SlotValue) (n m : ℕ)
@@ -157,10 +129,6 @@ module _ (setup : SetupValue) (earlier : List EndedTheory) (s : StateValue) (tex
       let told : agrees row.tested s.entries ≡ true = row_told setup earlier s text command row (same ∙ local) is in
       let clash : false ≡ true = sym none ∙ ap (λ t. agrees t s.entries) one ∙ told in
       absurd (cc)))
-
--- none is open after a slot
-pub none_opened : (s : StateValue) (slot : SlotValue) → slot.opened ≡ newest_of (after s slot.row.outcome).proof → slot.opened ≡ None → newest_of (after s slot.row.outcome).proof ≡ None
-none_opened s slot is none = sym is ∙ none
 
 -- the slots of an answer that is carried out
 pub run_slots : {R E : Type 0} (f : R → SlotValue) (r : Result R E) (setup : SetupValue) (earlier : List EndedTheory) (s next : StateValue) (text : List ℕ) (value : ReadText) (reads : Option ReadsValue) (tested : TestedValue) (outcome : OutcomeValue) (kept : Option StateValue)

@@ -2,7 +2,7 @@
 use Rattle.std.proofs.Common.{◌≡◌, ℕ, ◌+◌, ◌<◌, List, [], ◌∷◌, ◌++◌, length, get_or, take, map, refl, sym, ap, ◌∙◌, Bool, true, false, ◌||◌, if◌then◌else◌, arith}
 use lib.Bits.{bit_or}
 use Rattle.std.specs.List.{list_any}
-use Rattle.std.proofs.lemmas.List.{take_more, map_more}
+use Rattle.std.proofs.lemmas.List.{map_more}
 use Rattle.indexmap.specs.IndexSet.{insert_key}
 use Rattle.hol_types.specs.Filter.{name_bit}
 use Rattle.std.specs.Prelude.{◌≢◌, ◌↔◌, IsTrue, is_some}
@@ -74,10 +74,6 @@ grown : (old mid new ys more : List KeyValue) (key : KeyValue) → more ≡ ys +
 grown old mid new ys more key is h e k =
     e k ∙ ap (λ b. b || key_eq k key) (h k) ∙ or_more (is_one_of old k) (is_one_of ys k) (key_eq k key)
     ∙ ap (λ b. is_one_of old k || b) (sym (ap (λ ks. is_one_of ks k) is ∙ one_of_both ys (key ∷ []) k))
-
-pub key_added : (old mid new keys : List KeyValue) (i : ℕ) (key : KeyValue) → i < length keys → key ≡ get_or keys i key → AreMore old mid (take i keys) →
-    ((k : KeyValue) → is_one_of new k ≡ (is_one_of mid k || key_eq k key)) → AreMore old new (take (i + 1) keys)
-key_added old mid new keys i key lt is = grown old mid new (take i keys) (take (i + 1) keys) key (take_more keys i key lt ∙ ap (λ (k : KeyValue). take i keys ++ k ∷ []) (sym is))
 
 pub entry_added : {V : Type 0} (old mid new : List KeyValue) (entries : List (KeyValue × V)) (i : ℕ) (e : KeyValue × V) → i < length entries → e ≡ get_or entries i e →
     AreMore old mid (map (λ entry. entry.0) (take i entries)) → ((k : KeyValue) → is_one_of new k ≡ (is_one_of mid k || key_eq k e.0)) → AreMore old new (map (λ entry. entry.0) (take (i + 1) entries))

@@ -1,5 +1,5 @@
 -- What a command reads stands in a theory: its bases lie in the items of that, and so does their union, which is legal.
-use Rattle.std.specs.Prelude.{◌≡◌, ◌<◌, ◌≤◌, ◌+◌, ◌/◌, ℕ, Bool, true, false, cond, List, [], ◌∷◌, ◌++◌, length, get_or, filter, Option, Some, None, refl}
+use Rattle.std.specs.Prelude.{◌≡◌, ◌<◌, ◌≤◌, ◌+◌, ◌/◌, ℕ, Bool, true, false, cond, List, [], ◌∷◌, ◌++◌, length, get_or, Option, Some, None, refl}
 use Rattle.std.specs.Map.{keys_of}
 use Rattle.std.specs.FinSet as set
 use Rattle.std.proofs.Common.{ap, sym, ◌∙◌, subst, inl, inr, arith}
@@ -19,16 +19,19 @@ use Rattle.hol_resolve.specs.Readings.{QuotedValue, ReadingsValue}
 use Rattle.hol_resolve.specs.ReadingView.{list_value}
 use Rattle.hol_resolve.specs.declared.readings.Quoted.{Quoted}
 use Rattle.hol_combine.specs.ExprValue.{ExprValue}
-use Rattle.hol_theory.specs.Key.{KeyValue}
+use Rattle.hol_theory.specs.Key.{KeyValue, key_eq}
 use Rattle.hol_theory.specs.Entry.{EntryValue, AType, AConstant, ATheorem, Entries, IsEntry, entry_at, entry_basis, ATac}
 use Rattle.hol_theory.specs.Theory.{items_in, IsTheory}
+use Rattle.hol_theory.proofs.Keys.{key_is}
 use Rattle.hol_theory.proofs.Theories.{items_agree}
 use Rattle.hol_notation_commands.specs.Text.{LocalText}
 use Rattle.hol_exec.specs.Filters.{HasNames}
+use Rattle.hol_exec.specs.Callee.{value_at}
 use Rattle.hol_exec.specs.Keys.{cited_keys, made_keys}
+use Rattle.hol_exec.specs.OwnBases.{values_under}
 use Rattle.hol_exec.specs.ReadsValue.{Values, ReadsValue, AreKeyed, values_of}
 use Rattle.hol_exec.specs.Resolved.{occurs_in, with_value, with_values, resolved_basis}
-use Rattle.hol_exec.specs.Valid.{StandIn, AreOfTheory}
+use Rattle.hol_exec.specs.Valid.{StandIn, AreOfTheory, AreEntries, AreInTheory}
 use Rattle.hol_theory.proofs.Standing.{entry_within, entry_is}
 
 -- ---- what is read
@@ -61,6 +64,19 @@ reads_stand es cited_keys made_keys cited made e f t = record {
 pub names_stand : (es : Entries) (keys : List KeyValue) (values : Values) (n : ℕ) → values ≡ values_of es keys → HasNames n keys → HasNames n (keys_of values)
 names_stand es keys values n e h = subst (HasNames n) (sym (ap keys_of e ∙ values_keys es keys)) h
 
+-- what stands under keys is entries, where there is some
+standing_entries : (es : Entries) (cited : Values) → StandIn es cited → AreEntries es cited
+standing_entries es [] h = tt
+standing_entries es ((key, None) ∷ more) h = standing_entries es more h.1
+standing_entries es ((key, Some value) ∷ more) h = (sym h.0, standing_entries es more h.1)
+
+pub of_theory : (cited made own : Values) → own ≡ cited → AreOfTheory cited made → AreInTheory own
+of_theory cited made own e h = record {
+  entries = h.entries;
+  theory = h.theory;
+  stand = subst (AreEntries h.entries) (sym e) (standing_entries h.entries cited h.cited_stand);
+}
+
 -- ---- bases
 
 -- the basis of what is resolved with one quotation
@@ -84,29 +100,32 @@ module _ (es : Entries) (t : IsTheory es) (readings : ReadingsValue) where
     union_legal items basis h.1 k.1 (items_agree es items basis t h.0 k.0),
   )
 
-  value_fine : (items : Items) (key : KeyValue) (o : Option EntryValue) → o ≡ entry_at key es → Fine items → Fine (with_value readings items key o)
-  value_fine items key None e h = h
-  value_fine items key (Some (AType arity item basis)) e h =
-      join_fine items basis h (entry_within es key (AType arity item basis) t (sym e), legal_of (AType arity item basis) key (entry_is es key (AType arity item basis) t (sym e)))
-  value_fine items key (Some (AConstant ty item basis)) e h = by (occurs_in key.name readings)
+  value_fine : (items : Items) (key : KeyValue) (v : EntryValue) → entry_at key es ≡ Some v → Fine items → Fine (with_value readings items key (Some v))
+  value_fine items key (AType arity item basis) e h =
+      join_fine items basis h (entry_within es key (AType arity item basis) t e, legal_of (AType arity item basis) key (entry_is es key (AType arity item basis) t e))
+  value_fine items key (AConstant ty item basis) e h = by (occurs_in key.name readings)
     where
       by : (b : Bool) → Fine (cond b (set.union items basis) items)
-      by true = join_fine items basis h (entry_within es key (AConstant ty item basis) t (sym e), legal_of (AConstant ty item basis) key (entry_is es key (AConstant ty item basis) t (sym e)))
+      by true = join_fine items basis h (entry_within es key (AConstant ty item basis) t e, legal_of (AConstant ty item basis) key (entry_is es key (AConstant ty item basis) t e))
       by false = h
-  value_fine items key (Some (ATheorem th)) e h =
-      join_fine items th.basis h (entry_within es key (ATheorem th) t (sym e), legal_of (ATheorem th) key (entry_is es key (ATheorem th) t (sym e)))
-  value_fine items key (Some (ATac x bases basis)) e h =
-      join_fine items basis h (entry_within es key (ATac x bases basis) t (sym e), legal_of (ATac x bases basis) key (entry_is es key (ATac x bases basis) t (sym e)))
+  value_fine items key (ATheorem th) e h =
+      join_fine items th.basis h (entry_within es key (ATheorem th) t e, legal_of (ATheorem th) key (entry_is es key (ATheorem th) t e))
+  value_fine items key (ATac x bases basis) e h =
+      join_fine items basis h (entry_within es key (ATac x bases basis) t e, legal_of (ATac x bases basis) key (entry_is es key (ATac x bases basis) t e))
 
-  values_fine : (cited : Values) (items : Items) → StandIn es cited → Fine items → Fine (with_values readings items cited)
+  values_fine : (cited : Values) (items : Items) → AreEntries es cited → Fine items → Fine (with_values readings items cited)
   values_fine [] items h k = k
-  values_fine ((key, value) ∷ more) items h k = values_fine more (with_value readings items key value) h.1 (value_fine items key value h.0 k)
+  values_fine ((key, None) ∷ more) items h k = values_fine more items h k
+  values_fine ((key, Some value) ∷ more) items h k = values_fine more (with_value readings items key (Some value)) h.1 (value_fine items key value h.0 k)
 
   none_fine : Fine no_items
   none_fine = (none_within no_items (items_in es) refl, ([], tt, refl))
 
+  joined_fine : (cited : Values) → AreEntries es cited → Fine (resolved_basis cited readings)
+  joined_fine cited h = values_fine cited no_items h none_fine
+
   pub resolved_fine : (cited : Values) → StandIn es cited → Fine (resolved_basis cited readings)
-  resolved_fine cited h = values_fine cited no_items h none_fine
+  resolved_fine cited h = joined_fine cited (standing_entries es cited h)
 
 -- ---- by halves
 
@@ -191,29 +210,29 @@ module _ (readings : ReadingsValue) where
       → o ≡ Some v → v ≡ ATac x bases own → basis ≡ own → basis ≡ with_value readings no_items key o
   adds_tac key o v x bases own basis there is e = e ∙ sym (none_joined own) ∙ sym (ap (with_value readings no_items key) (there ∙ ap Some is))
 
-front_stands : (es : Entries) (front back : Values) → StandIn es (front ++ back) → StandIn es front
+front_stands : (es : Entries) (front back : Values) → AreEntries es (front ++ back) → AreEntries es front
 front_stands es [] back h = tt
-front_stands es ((key, value) ∷ more) back h = (h.0, front_stands es more back h.1)
+front_stands es ((key, None) ∷ more) back h = front_stands es more back h
+front_stands es ((key, Some value) ∷ more) back h = (h.0, front_stands es more back h.1)
 
-back_stands : (es : Entries) (front back : Values) → StandIn es (front ++ back) → StandIn es back
+back_stands : (es : Entries) (front back : Values) → AreEntries es (front ++ back) → AreEntries es back
 back_stands es [] back h = h
-back_stands es ((key, value) ∷ more) back h = back_stands es more back h.1
+back_stands es ((key, None) ∷ more) back h = back_stands es more back h
+back_stands es ((key, Some value) ∷ more) back h = back_stands es more back h.1
 
--- what is cited first, and what is cited after it, stands in the theory where all does
-pub front_of_theory : (cited made front back : Values) → cited ≡ front ++ back → AreOfTheory cited made → AreOfTheory front made
-front_of_theory cited made front back e h = record {
+-- what comes first, and what comes after it, is of the theory that all is of
+pub front_in_theory : (cited front back : Values) → cited ≡ front ++ back → AreInTheory cited → AreInTheory front
+front_in_theory cited front back e h = record {
   entries = h.entries;
   theory = h.theory;
-  cited_stand = front_stands h.entries front back (subst (StandIn h.entries) e h.cited_stand);
-  made_stand = h.made_stand;
+  stand = front_stands h.entries front back (subst (AreEntries h.entries) e h.stand);
 }
 
-pub back_of_theory : (cited made front back : Values) → cited ≡ front ++ back → AreOfTheory cited made → AreOfTheory back made
-back_of_theory cited made front back e h = record {
+pub back_in_theory : (cited front back : Values) → cited ≡ front ++ back → AreInTheory cited → AreInTheory back
+back_in_theory cited front back e h = record {
   entries = h.entries;
   theory = h.theory;
-  cited_stand = back_stands h.entries front back (subst (StandIn h.entries) e h.cited_stand);
-  made_stand = h.made_stand;
+  stand = back_stands h.entries front back (subst (AreEntries h.entries) e h.stand);
 }
 
 pub half_smaller : (n m : ℕ) → 2 ≤ n → m ≡ n / 2 → m < n
@@ -223,28 +242,36 @@ pub rest_smaller : (n m : ℕ) → 2 ≤ n → m + n / 2 ≡ n → m < n
 rest_smaller n m two e = omega (arith, two, e)
 
 -- bases of what is cited in one theory agree
-pub halves_agree : (cited made front back : Values) (readings : ReadingsValue) → cited ≡ front ++ back → AreOfTheory cited made → Agree (resolved_basis front readings) (resolved_basis back readings)
-halves_agree cited made front back readings e h =
+pub halves_agree : (cited front back : Values) (readings : ReadingsValue) → cited ≡ front ++ back → AreInTheory cited → Agree (resolved_basis front readings) (resolved_basis back readings)
+halves_agree cited front back readings e h =
     let es = h.entries in
-    let stand = subst (StandIn es) e h.cited_stand in
+    let stand = subst (AreEntries es) e h.stand in
     items_agree es (resolved_basis front readings) (resolved_basis back readings) h.theory
-    (resolved_fine es h.theory readings front (front_stands es front back stand)).0
-    (resolved_fine es h.theory readings back (back_stands es front back stand)).0
+    (joined_fine es h.theory readings front (front_stands es front back stand)).0
+    (joined_fine es h.theory readings back (back_stands es front back stand)).0
 
 -- ---- some of what is cited
 
-some_stand : (es : Entries) (test : KeyValue × Option EntryValue → Bool) (cited : Values) → StandIn es cited → StandIn es (filter test cited)
-some_stand es test [] h = tt
-some_stand es test ((key, value) ∷ more) h = by (test (key, value)) (some_stand es test more h.1)
+found_stands : (es : Entries) (key : KeyValue) (cited : Values) (v : EntryValue) → StandIn es cited → value_at key cited ≡ Some v → entry_at key es ≡ Some v
+found_stands es key [] v h e = absurd (cc)
+found_stands es key ((k, value) ∷ more) v h e = by (key_eq key k) refl e (found_stands es key more v h.1)
   where
-    by : (b : Bool) → StandIn es (filter test more) → StandIn es (cond b ((key, value) ∷ filter test more) (filter test more))
-    by true rest = (h.0, rest)
-    by false rest = rest
+    by : (b : Bool) → key_eq key k ≡ b → cond b value (value_at key more) ≡ Some v → (value_at key more ≡ Some v → entry_at key es ≡ Some v) → entry_at key es ≡ Some v
+    by true is f later = ap (λ (x : KeyValue). entry_at x es) (key_is key k is) ∙ sym h.0 ∙ f
+    by false is f later = later f
 
-pub some_of_theory : (cited made own : Values) (test : KeyValue × Option EntryValue → Bool) → own ≡ filter test cited → AreOfTheory cited made → AreOfTheory own made
-some_of_theory cited made own test e h = record {
+under_entries : (es : Entries) (cited : Values) (keys : List KeyValue) → StandIn es cited → AreEntries es (values_under cited keys)
+under_entries es cited [] h = tt
+under_entries es cited (key ∷ keys) h = by (value_at key cited) refl (under_entries es cited keys h)
+  where
+    by : (o : Option EntryValue) → value_at key cited ≡ o → AreEntries es (values_under cited keys) → AreEntries es ((key, o) ∷ values_under cited keys)
+    by None e rest = rest
+    by (Some v) e rest = (found_stands es key cited v h e, rest)
+
+-- what stands under some keys where they are cited
+pub under_in_theory : (cited made own : Values) (keys : List KeyValue) → own ≡ values_under cited keys → AreOfTheory cited made → AreInTheory own
+under_in_theory cited made own keys e h = record {
   entries = h.entries;
   theory = h.theory;
-  cited_stand = subst (StandIn h.entries) (sym e) (some_stand h.entries test cited h.cited_stand);
-  made_stand = h.made_stand;
+  stand = subst (AreEntries h.entries) (sym e) (under_entries h.entries cited keys h.cited_stand);
 }

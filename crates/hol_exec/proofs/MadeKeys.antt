@@ -2,16 +2,13 @@
 use Rattle.std.specs.Prelude.{◌≡◌, ℕ, List, [], ◌∷◌, ◌++◌, map, length, Option, Some, None, refl}
 use Rattle.std.specs.List.{IsDistinct}
 use Rattle.std.specs.Map.{keys_of}
-use Rattle.std.specs.Option.{option_and_then}
 use Rattle.std.proofs.Common.{ap, sym, ◌∙◌, subst}
 use Rattle.hol_types.specs.Tree.{TypeTree}
-use Rattle.hol_types.specs.Fun.{fun_type, fun_parts}
 use Rattle.hol_terms.specs.Nameless.{Nameless, fixed, nameless_type}
-use Rattle.hol_formulas.specs.Equation.{bool_type}
 use Rattle.hol_kernel.specs.Extends.{IsTypeDefine}
-use Rattle.hol_kernel.specs.Item.{Item, defined_constant, defined_type}
+use Rattle.hol_kernel.specs.Item.{Item, defined_constant}
 use Rattle.hol_kernel.specs.Items.{Items}
-use Rattle.hol_kernel.specs.Signature.{constant_of, bijections, new_type, term_tyvars}
+use Rattle.hol_kernel.specs.Signature.{constant_of, bijections}
 use Rattle.hol_kernel.specs.Sequent.{no_hyps}
 use Rattle.hol_kernel.specs.Theorem.{Theorem, IsTheorem, theorem_over}
 use Rattle.hol_kernel.proofs.Variables.{known_typed}
@@ -19,7 +16,7 @@ use Rattle.hol_definition.specs.ForAll.{for_all}
 use Rattle.hol_notation_terms.specs.Text.{DefinitionText}
 use Rattle.hol_theory.specs.Key.{KeyValue, key_eq, type_key, constant_key, theorem_key}
 use Rattle.hol_theory.specs.Entry.{Entries, EntryValue, ATheorem, EachIsEntry, IsTheoremEntry}
-use Rattle.hol_theory.specs.Making.{item_entries, type_entry, constant_entry, IsNewDefinition, IsNewTypeDefinition}
+use Rattle.hol_theory.specs.Making.{item_entries, type_entry, constant_entry, IsNewDefinition}
 use Rattle.hol_theory.proofs.Entries.{each_joined}
 use Rattle.hol_exec.specs.OutcomeValue.{OutcomeValue, Makes}
 use Rattle.hol_exec.specs.Making.{MakesDefined}
@@ -51,14 +48,6 @@ type_keys : (name abs rep one two : List ℕ) (x : Item) (basis : Items) (first 
     ≡ type_key name ∷ constant_key abs ∷ constant_key rep ∷ theorem_key one ∷ theorem_key two ∷ []
 type_keys name abs rep one two x basis first second new n q None is = absurd (cc)
 type_keys name abs rep one two x basis first second new n q (Some p) is = refl
-
-pub type_definition_keys : (basis : Items) (name abs rep one two : List ℕ) (member : Theorem) (entries : Entries) → IsNewTypeDefinition basis name abs rep one two member entries →
-    keys_of entries ≡ type_key name ∷ constant_key abs ∷ constant_key rep ∷ theorem_key one ∷ theorem_key two ∷ []
-type_definition_keys basis name abs rep one two member entries d =
-    let p : Nameless = d.defined.predicate in
-    ap keys_of d.entries_are
-    ∙ type_keys name abs rep one two (defined_type name abs rep p) d.larger d.abs_rep d.rep_abs (new_type name (term_tyvars p)) (length (term_tyvars p)) (d.defined.old, bool_type) (option_and_then fun_parts (nameless_type [] p))
-    (ap (option_and_then fun_parts) (known_typed basis p (fun_type d.defined.old bool_type) d.defined.typed).1)
 
 -- ---- what a definition makes
 

@@ -9,12 +9,12 @@ use Rattle.hol_notation_tactics.specs.TacView.{tac_of_node}
 use Rattle.hol_notation_tactics.specs.declared.tac_expr.TacExprNode.{TacExprNode}
 use Rattle.hol_notation_tactics.specs.declared.tac_expr.TacExprNode.TheVariants as node
 use Rattle.hol_notation_tactics.specs.declared.parts.Role.TheVariants.{Whole}
-use Rattle.hol_combine.specs.Chains.{Chain, Steps, Alternatives, Uses, NoChain, chain_of, last_chain}
+use Rattle.hol_combine.specs.Chains.{Chain, Steps, Alternatives, Uses, NoChain, chain_of}
 use Rattle.hol_combine.specs.ExprValue as expr
 use Rattle.hol_resolve.specs.Forms.{WrittenArgsValue}
 use Rattle.hol_resolve.specs.Readings.{term_at}
 use Rattle.hol_exec.specs.Callee.{CalleeValue, Registered, Defined, called}
-use Rattle.hol_combine.specs.ExprValue.{TheoremTacValue, ExprValue, ExprValues, Then, OrElse, SubgoalThen, no_exprs, more_exprs, exprs, then_all, or_else_all}
+use Rattle.hol_combine.specs.ExprValue.{TheoremTacValue, ExprValue, ExprValues, Then, OrElse, SubgoalThen, no_exprs, more_exprs, exprs, then_all}
 use Rattle.hol_exec.specs.declared.resolving.unresolved.Unresolved.{Unresolved as Fault}
 use Rattle.hol_exec.specs.declared.resolving.unresolved.Unresolved.TheVariants as fault
 use Rattle.hol_exec.specs.Expr.{RefusedValue, mapped, both, ContextValue, formula, given, resolved_call, resolved_handing, resolved_expr, resolved_exprs}
@@ -30,9 +30,6 @@ fails_by r s fault.Memory g h = tt
 pub refuses : {X : Type 0} (s : Result X RefusedValue) (refused : RefusedValue) (f : Fault) → s ≡ Err refused → IsRefusal refused f → IsFault s f
 refuses s refused (fault.Refused kind arg) e h = e ∙ ap Err h
 refuses s refused fault.Memory e h = tt
-
-pub mapped_fails : {X Y : Type 0} (f : X → Y) (r : Result X RefusedValue) (x : Fault) → IsFault r x → IsFault (mapped f r) x
-mapped_fails f r x h = fails_by r (mapped f r) x (λ e i. ap (mapped f) i) h
 
 pub first_fails : {X Y Z : Type 0} (f : X → Y → Z) (r : Result X RefusedValue) (s : Result Y RefusedValue) (x : Fault) → IsFault r x → IsFault (both f r s) x
 first_fails f r s x h = fails_by r (both f r s) x (λ e i. ap (λ w. both f w s) i) h
@@ -70,10 +67,6 @@ module _ (context : ContextValue) (ts : List TacText) where
   abbrev rest : ℕ → Result ExprValues RefusedValue
   rest i = resolved_exprs context (tac_texts (drop i ts))
 
-  pub each_starts : (r : Result ExprValues RefusedValue) → r ≡ mapped (before []) r
-  each_starts (Ok us) = refl
-  each_starts (Err e) = refl
-
   each_next : (i : ℕ) (t : TacText) → i < length ts → t ≡ get_or ts i t → rest i ≡ both more_exprs (resolved_expr context t) (rest (i + 1))
   each_next i t h e = ap (resolved_exprs context) (drop_text ts i t h e)
 
@@ -85,11 +78,6 @@ module _ (context : ContextValue) (ts : List TacText) where
       joined : (r : Result ExprValues RefusedValue) → mapped (before xs) (mapped (more_exprs x) r) ≡ mapped (before (xs ++ x ∷ [])) r
       joined (Ok us) = ap Ok (sym (before_more xs x us))
       joined (Err y) = refl
-
-  pub each_fails : (xs : List ExprValue) (i : ℕ) (t : TacText) (f : Fault) → i < length ts → t ≡ get_or ts i t → IsFault (resolved_expr context t) f
-      → resolved_exprs context (tac_texts ts) ≡ mapped (before xs) (rest i) → IsFault (resolved_exprs context (tac_texts ts)) f
-  each_fails xs i t f h e fails is =
-      fails_by (resolved_expr context t) (resolved_exprs context (tac_texts ts)) f (λ r k. is ∙ ap (mapped (before xs)) (each_next i t h e ∙ ap (λ w. both more_exprs w (rest (i + 1))) k)) fails
 
   pub each_ends : (xs : List ExprValue) (i : ℕ) → drop i ts ≡ [] → resolved_exprs context (tac_texts ts) ≡ mapped (before xs) (rest i) → resolved_exprs context (tac_texts ts) ≡ Ok (exprs xs)
   each_ends xs i none is = is ∙ ap (λ us. mapped (before xs) (resolved_exprs context (tac_texts us))) none ∙ ap Ok (before_none xs)
@@ -127,15 +115,6 @@ chain_longer r s old mid new x h is grown = record {
 pub one_alternative : (r : Result ExprValue RefusedValue) (old new : List ExprValue) (x : ExprValue) → r ≡ Ok x → new ≡ old ++ x ∷ [] → (chain_of x ≡ Alternatives → ⊥) → AreAlternatives r old new
 one_alternative r old new x is grown whole = record { first = x; more = []; added = grown; is = is; whole = whole }
 
-pub alternatives_longer : (r s : Result ExprValue RefusedValue) (old mid new : List ExprValue) (x : ExprValue) → r ≡ Ok x → mid ≡ old ++ x ∷ [] → AreAlternatives s mid new → AreAlternatives (both OrElse r s) old new
-alternatives_longer r s old mid new x is grown h = record {
-  first = x;
-  more = h.first ∷ h.more;
-  added = h.added ∙ ap (λ (ws : List ExprValue). ws ++ (h.first ∷ h.more)) grown ∙ append_assoc old (x ∷ []) (h.first ∷ h.more);
-  is = both_found OrElse r s x (or_else_all h.first h.more) is h.is;
-  whole = h.whole;
-}
-
 -- a chain of two parts or more, as the node has it
 pub chain_node : (r : Result ExprValue RefusedValue) (items after rest : List ExprValue) (head next : ExprValue) → IsChain r [] items → 1 < length items → head ≡ get_or items 0 head → after ≡ remove items 0 → next ≡ get_or after 0 next → rest ≡ remove after 0
     → r ≡ Ok (then_all (Then head next) rest)
@@ -149,24 +128,6 @@ chain_node r items after rest head next h two d e f g = by h.more h.added h.is
         let second : next ≡ m = f ∙ ap (λ (ws : List ExprValue). get_or ws 0 next) then in
         let others : rest ≡ more = g ∙ ap (λ (ws : List ExprValue). remove ws 0) then in
         found ∙ sym (λ i. Ok (then_all (Then (first i) (second i)) (others i)))
-
--- its first is no such chain
-pub chain_whole : (r : Result ExprValue RefusedValue) (items : List ExprValue) (head : ExprValue) → IsChain r [] items → head ≡ get_or items 0 head → chain_of head ≡ Steps → ⊥
-chain_whole r items head h d k = h.whole (ap chain_of (sym (d ∙ ap (λ (ws : List ExprValue). get_or ws 0 head) h.added)) ∙ k)
-
--- a chain of one part or more, as the node has it
-module _ (r : Result ExprValue RefusedValue) (items rest : List ExprValue) (next : ExprValue) (h : AreAlternatives r [] items) (d : next ≡ get_or items 0 next) (e : rest ≡ remove items 0) where
-  next_first : next ≡ h.first
-  next_first = d ∙ ap (λ (ws : List ExprValue). get_or ws 0 next) h.added
-
-  rest_more : rest ≡ h.more
-  rest_more = e ∙ ap (λ (ws : List ExprValue). remove ws 0) h.added
-
-  pub alternatives_node : r ≡ Ok (or_else_all next rest)
-  alternatives_node = h.is ∙ sym (λ i. Ok (or_else_all (next_first i) (rest_more i)))
-
-  pub alternatives_whole : last_chain next rest ≡ Alternatives → ⊥
-  alternatives_whole k = h.whole (sym (λ i. last_chain (next_first i) (rest_more i)) ∙ k)
 
 -- a formula that is found, and what it is handed to
 pub formula_handed : (r : Result Nameless RefusedValue) (s : Result TheoremTacValue RefusedValue) (p : Nameless) (result : Result ExprValue Fault) → r ≡ Ok p → IsFound (mapped (SubgoalThen p) s) result → IsFound (both SubgoalThen r s) result

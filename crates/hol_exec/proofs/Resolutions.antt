@@ -1,5 +1,5 @@
 -- What is written, resolved, from the steps of resolving.
-use Rattle.std.specs.Prelude.{◌≡◌, ◌==◌, true, ℕ, List, [], ◌∷◌, length, Option, Some, None, Result, Ok, Err, IfOk, string_bytes}
+use Rattle.std.specs.Prelude.{◌≡◌, ◌==◌, true, ℕ, List, [], ◌∷◌, length, Option, Some, None, Result, Ok, IfOk}
 use Rattle.std.proofs.Common.{ap, sym, ◌∙◌, subst, arith}
 use Rattle.hol_kernel.specs.Items.{Items}
 use Rattle.hol_notation_tactics.specs.Parts.{parts_of, calls_in}
@@ -18,7 +18,7 @@ use Rattle.hol_exec.specs.Resolved.{cited_theorems, occurs_in, resolved_basis}
 use Rattle.hol_exec.specs.Standing.{first_unknown}
 use Rattle.hol_combine.specs.ExprValue.{ExprValue}
 use Rattle.hol_exec.specs.Expr.{RefusedValue, ResolutionValue, Resolved, Unresolved, first_unfit, resolved_expr, refused_resolution, resolution_of, resolved_untaken, resolved_read, IsResolvedFitting, IsResolution}
-use Rattle.hol_exec.specs.ExprView.{resolution_value, IsRefusal, IsFault, IsUnresolved}
+use Rattle.hol_exec.specs.ExprView.{resolution_value, IsRefusal, IsUnresolved}
 use Rattle.hol_exec.specs.declared.resolving.resolution.Resolution.{Resolution}
 use Rattle.hol_exec.specs.declared.resolving.unresolved.Unresolved.{Unresolved as Fault}
 use Rattle.hol_exec.specs.declared.resolving.unresolved.Unresolved.TheVariants as fault
@@ -67,10 +67,6 @@ module _ (setup : SetupValue) (cited : Values) (tactic : TacText) (readings : Re
       Resolved e basis readings ≡ resolved_untaken setup None tactic cited readings
   untaken_found basis e is found = sym (ap (resolution_of basis readings) found) ∙ ap on is
 
-  pub untaken_refused : (basis : Items) (refused : RefusedValue) → basis ≡ resolved_basis cited readings → resolved_expr (record { table = setup.table; cited = cited; readings = readings; basis = basis }) tactic ≡ Err refused →
-      refused_resolution refused ≡ resolved_untaken setup None tactic cited readings
-  untaken_refused basis refused is found = sym (ap (resolution_of basis readings) found) ∙ ap on is
-
 -- what is resolved by
 pub is_context : (cited made : Values) (readings : ReadingsValue) (basis : Items) (theorems : CitedValue) → AreOfTheory cited made → basis ≡ resolved_basis cited readings → theorems ≡ cited_theorems cited → AreWithin basis theorems
 is_context cited made readings basis theorems h e f =
@@ -81,7 +77,3 @@ is_context cited made readings basis theorems h e f =
 pub refusal_ends : {E : Type 0} (refused : RefusedValue) (f : Fault) (result : Result Resolution E) → IsRefusal refused f → IsUnresolved f result → IfOk result (λ r. resolution_value r ≡ refused_resolution refused)
 refusal_ends refused (fault.Refused kind arg) result h u = if_ok result _ _ (λ r e. e ∙ ap refused_resolution (sym h)) u
 refusal_ends refused fault.Memory result h u = IfOk-from_err result _ u
-
-pub fault_ends : {E : Type 0} (R : Result ExprValue RefusedValue) (whole : ResolutionValue) (f : Fault) (result : Result Resolution E) → ((refused : RefusedValue) → R ≡ Err refused → refused_resolution refused ≡ whole) → IsFault R f → IsUnresolved f result → IfOk result (λ r. resolution_value r ≡ whole)
-fault_ends R whole (fault.Refused kind arg) result g h u = if_ok result _ _ (λ r e. e ∙ g (kind, string_bytes arg) h) u
-fault_ends R whole fault.Memory result g h u = IfOk-from_err result _ u

@@ -16,7 +16,7 @@ use Rattle.hol_theory.specs.Making.{IsNewType, IsNewConstant, IsNewAxiom}
 use Rattle.hol_exec.specs.declared.reports.refusal.RefusalKind.TheVariants as refusal
 use Rattle.hol_exec.specs.ReadsValue.{ReadsValue}
 use Rattle.hol_exec.specs.OutcomeValue.{OutcomeValue, Makes, Refuses}
-use Rattle.hol_exec.specs.Making.{UnlessTaken, MakesOne, UnlessOpen, IsMade, IsMaking}
+use Rattle.hol_exec.specs.Making.{UnlessTaken, MakesOne, IsMade, IsMaking}
 use Rattle.hol_notation_commands.specs.Text.{MakingText}
 
 module _ {E : Type 0} (result : Result OutcomeValue E) (taken : Option KeyValue) (Made : OutcomeValue → Type 0) where
@@ -40,18 +40,6 @@ constant_at_name own basis text name a e p q is = subst (λ (b : Items). IsNewCo
 
 pub axiom_at_name : (own basis : Items) (text name : List ℕ) (t : Nameless) (e : KeyValue × EntryValue) → own ≡ basis → text ≡ name → IsNewAxiom own text t e → IsNewAxiom basis name t e
 axiom_at_name own basis text name t e p q is = subst (λ (b : Items). IsNewAxiom b name t e) p (subst (λ (n : List ℕ). IsNewAxiom own n t e) q is)
-
--- ---- a variable that is free, or a type variable that is not reflected
-
-module _ {E : Type 0} (result : Result OutcomeValue E) (free unreflected : Option (List ℕ)) (Made : OutcomeValue → Type 0) where
-  pub free_refused : (x : List ℕ) → Some x ≡ free → IfOk result (λ outcome. outcome ≡ Refuses refusal.NotClosed x) → IfOk result (UnlessOpen free unreflected Made)
-  free_refused x e h = subst (λ (o : Option (List ℕ)). IfOk result (UnlessOpen o unreflected Made)) e h
-
-  pub unreflected_refused : (a : List ℕ) → None ≡ free → Some a ≡ unreflected → IfOk result (λ outcome. outcome ≡ Refuses refusal.NotReflected a) → IfOk result (UnlessOpen free unreflected Made)
-  unreflected_refused a e f h = subst (λ (o : Option (List ℕ)). IfOk result (UnlessOpen o unreflected Made)) e (subst (λ (o : Option (List ℕ)). IfOk result (UnlessOpen None o Made)) f h)
-
-  pub closed_made : None ≡ free → None ≡ unreflected → IfOk result Made → IfOk result (UnlessOpen free unreflected Made)
-  closed_made e f h = subst (λ (o : Option (List ℕ)). IfOk result (UnlessOpen o unreflected Made)) e (subst (λ (o : Option (List ℕ)). IfOk result (UnlessOpen None o Made)) f h)
 
 -- ---- types that are read
 

@@ -77,7 +77,8 @@ after s (Rotates times) = record { entries = s.entries; proof = rotated_in times
 after s (Makes entries) = record { entries = s.entries ++ entries; proof = None }
 after s (Refuses kind arg) = s
 
--- each theorem that is made has no hypotheses and a derivation over its basis, which is legal; and each type and constant is made by an item of its basis
+-- each theorem that is made has no hypotheses and a derivation over its basis, which is legal; each type and constant is made by an item of its basis;
+-- and the basis of each named expression, which is legal, suits it
 abbrev pub MakesTheorems : OutcomeValue → Type 0
 MakesTheorems (Opens name statement basis) = Unit {0}
 MakesTheorems (Leaves goal goals basis) = Unit {0}

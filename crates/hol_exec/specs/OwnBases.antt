@@ -12,15 +12,15 @@ use Rattle.hol_resolve.specs.declared.quotations.AnyQuotation.{AnyQuotation}
 use Rattle.hol_resolve.specs.Quotations.{place_of, quotations_in}
 use Rattle.hol_resolve.specs.Readings.{ReadingsValue}
 use Rattle.hol_resolve.specs.Forms.{WrittenArgsValue, Nothing, Term, Pair, Theorem, TermAndTheorem, Theorems}
-use Rattle.hol_theory.specs.Key.{KeyValue, key_eq}
-use Rattle.hol_exec.specs.Callee.{CalleeValue, Registered, Defined, called}
+use Rattle.hol_theory.specs.Key.{KeyValue}
+use Rattle.hol_exec.specs.Callee.{CalleeValue, Registered, Defined, value_at, called}
 use Rattle.hol_exec.specs.Keys.{keys_in}
 use Rattle.hol_exec.specs.ReadsValue.{Values}
 use Rattle.hol_exec.specs.Resolved.{resolved_basis}
 
--- what stands under those of the keys that are cited
+-- these keys, each with what stands under it where it is cited
 abbrev pub values_under : Values → List KeyValue → Values
-values_under cited keys = filter (λ v. list_any (key_eq v.0) keys) cited
+values_under cited keys = map (λ key. (key, value_at key cited)) keys
 
 -- what these quotations read as
 abbrev pub readings_of : ReadingsValue → List AnyQuotation → ReadingsValue

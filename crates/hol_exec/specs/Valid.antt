@@ -59,6 +59,18 @@ pub record AreOfTheory (cited made : Values) : Type 0 where
   pub cited_stand : StandIn entries cited
   pub made_stand : StandIn entries made
 
+-- the values, where there are some, are those of their keys' entries
+abbrev pub AreEntries : Entries → Values → Type 0
+AreEntries entries [] = Unit {0}
+AreEntries entries ((key, None) ∷ more) = AreEntries entries more
+AreEntries entries ((key, Some value) ∷ more) = (entry_at key entries ≡ Some value) × AreEntries entries more
+
+-- They are entries of some theory, whatever else stands there.
+pub record AreInTheory (values : Values) : Type 0 where
+  pub entries : Entries
+  pub theory : IsTheory entries
+  pub stand : AreEntries entries values
+
 -- the elements of a proof's history rest on the items
 abbrev pub IsHistoryWithin : Items → StepValue → List StepValue → Type 0
 IsHistoryWithin items newest [] = IsSubset newest.basis items

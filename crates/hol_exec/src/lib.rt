@@ -15,7 +15,7 @@ mod state;
 pub use hol_notation_commands::{Command, CommandNode, DirectCommand, LocalCommand, Making};
 pub use hol_print::ShownGoal;
 pub use hol_stack::Element;
-pub use laws::{one_outcome, outcomes_need_the_tested_names_alone};
+pub use laws::{one_outcome, outcomes_need_the_tested_names_alone, own_bases_are_of_own_keys};
 pub use reading::{Parsed, parse, unread};
 pub use reads::{ChangedKeys, CommandKeys, Reads};
 pub use reports::{RefusalKind, Report, entry_text, goals_of, report_of, report_with};

@@ -348,16 +348,6 @@ fn are_apart(values: &[(Key, Option<Value>)], changes: &ChangedKeys) -> bool
     true
 }
 
-/// The same, if there is one.
-pub(crate) fn entry_copy(entry: &Option<Value>) -> Result<Option<Value>, AllocError>
-    ensures { IfOk result (λ copied. copied ≡ entry.now) }
-{
-    match entry {
-        Some(entry) => Ok(Some(entry.copy()?)),
-        None => Ok(None),
-    }
-}
-
 fn goal_for(command: &LocalCommand, state: &State) -> Result<Option<Goal>, AllocError>
     ensures { IfOk result (λ goal. goal ≡ goal_for (local_text command.now) state.now.proof) }
 {

@@ -37,6 +37,5 @@ pub use standing::{prelude_constants, prelude_types};
 pub use statements::statement;
 pub use terms::{constant, occurrence, variable};
 pub use types::{
-    bool_type, connective_type, equality_type, is_bool, negation_type, quantifier_type,
-    type_variable,
+    bool_type, connective_type, is_bool, negation_type, quantifier_type, type_variable,
 };

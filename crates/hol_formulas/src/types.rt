@@ -45,8 +45,8 @@ pub(crate) fn bool_beside(alloc: Global, ty: &Ty) -> Result<Ty, AllocError>
     }
 }
 
-/// The type of `=` between terms of a type.
-pub fn equality_type(alloc: Global, ty: &Ty) -> Result<Ty, AllocError>
+// The type of `=` between terms of a type.
+fn equality_type(alloc: Global, ty: &Ty) -> Result<Ty, AllocError>
     ensures { IfOk result (λ equality. equality ≡ equality_type ty.now) }
 {
     let truth = bool_beside(alloc, ty)?;

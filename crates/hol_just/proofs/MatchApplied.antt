@@ -157,10 +157,6 @@ none_on : (c : Bool) (x : Abstraction) (vs : List (List ℕ × TypeTree)) → fa
 none_on true x vs h = absurd (cc)
 none_on false x vs h = refl
 
-some_on : (c : Bool) (x : Abstraction) (vs : List (List ℕ × TypeTree)) → true ≡ is_some (cond c (Some x) None) → cond c vs [] ≡ vs
-some_on true x vs h = refl
-some_on false x vs h = absurd (cc)
-
 -- a formula that is no universal quantification has none
 pub no_variables : (p : Named) → false ≡ is_forall (nameless [] p) → bound_variables p ≡ []
 no_variables (var v) e = refl
@@ -173,28 +169,6 @@ no_variables (comb f x) e = by x e
     by (comb g y) h = refl
     by (abs v b) g = none_on (is_constant (codes "!") (quantifier_type v.1) (nameless [] f)) (under_quantifier v b) (v ∷ bound_variables b) g
 no_variables (abs v b) e = refl
-
--- one that is has its variable, and those of what stands under it
-pub one_variable : (p f x : Named) (v : List ℕ × TypeTree) (b : Named) → true ≡ is_forall (nameless [] p) → p ≡ comb f x → x ≡ abs v b → bound_variables p ≡ v ∷ bound_variables b
-one_variable p f x v b e is same =
-    let whole : p ≡ comb f (abs v b) = is ∙ ap (comb f) same in
-    ap bound_variables whole
-    ∙ some_on (is_constant (codes "!") (quantifier_type v.1) (nameless [] f)) (under_quantifier v b) (v ∷ bound_variables b) (e ∙ ap (λ q. is_forall (nameless [] q)) whole)
-
-pub no_application : (p : Named) → ((f x : Named) → p ≡ comb f x → ⊥) → bound_variables p ≡ []
-no_application (var v) h = refl
-no_application (constant c s) h = refl
-no_application (comb f x) h = absurd (h f x refl)
-no_application (abs v b) h = refl
-
-pub no_abstraction : (p f x : Named) → p ≡ comb f x → ((v : List ℕ × TypeTree) (b : Named) → x ≡ abs v b → ⊥) → bound_variables p ≡ []
-no_abstraction p f x is h = ap bound_variables is ∙ by x h
-  where
-    by : (x : Named) → ((v : List ℕ × TypeTree) (b : Named) → x ≡ abs v b → ⊥) → bound_by (nameless [] f) x ≡ []
-    by (var v) k = refl
-    by (constant c s) k = refl
-    by (comb g y) k = refl
-    by (abs v b) k = absurd (k v b refl)
 
 -- ---- SPEC at the variables, one after the other
 

@@ -46,11 +46,6 @@ module _ {K : Type 0} {R : K → K → Ordering} (o : IsTotalOrder R) (only : se
   in_or_out s q =
       elim (set.contains s q) as (λ b. (b ≡ true) ⊎ (b ≡ true → ⊥)) [ true ↦ inl refl | false ↦ inr (λ e. true≢false (sym e)) ]
 
-  pub insert_there : (s : set.FinSet R) (k : K) → set.contains s k ≡ true → set.insert s k ≡ s
-  insert_there s k there =
-      same_members _ _ (λ q h. elim (in_insert_cases s k q h) [ inl e ↦ subst (λ (z : K). set.contains s z ≡ true) (sym e) there | inr i ↦ i ])
-      (λ q h. in_insert_old s k q h)
-
   pub union_insert : (a b : set.FinSet R) (x : K) → set.union a (set.insert b x) ≡ set.insert (set.union a b) x
   union_insert a b x =
       same_members _ _

@@ -1,6 +1,6 @@
 -- What the rules make of a term that is handed in.
 use Rattle.std.specs.Prelude.{◌≡◌, ℕ, Bool, true, false, cond, not, ◌&&◌, List, [], Option, Some, None, is_some, IsSome, refl}
-use Rattle.std.specs.Option.{option_map, option_and_then}
+use Rattle.std.specs.Option.{option_map}
 use Rattle.std.specs.FinSet as set
 use Rattle.std.proofs.Common.{ap, sym, ◌∙◌, subst}
 use Rattle.std.proofs.lemmas.Bool.{and_right}
@@ -8,11 +8,11 @@ use Rattle.std.proofs.Math.Bool.{and-true}
 use mathlib.Core.Bool.{true≢false}
 use Rattle.hol_types.specs.Tree.{TypeTree}
 use Rattle.hol_types.specs.Equal.{type_eq, variable_eq}
-use Rattle.hol_types.specs.Fun.{fun_type, fun_parts}
+use Rattle.hol_types.specs.Fun.{fun_type}
 use Rattle.hol_types.proofs.OrderLaws.{type_cmp_decides}
 use Rattle.hol_terms.specs.Named.{Named, var, constant, comb, abs, named_type}
 use Rattle.hol_terms.proofs.Same.{variable_eq_decides}
-use Rattle.hol_terms.proofs.Typing.{comb_type, abs_type}
+use Rattle.hol_terms.proofs.Typing.{abs_type}
 use Rattle.hol_subst.specs.Closing.{bind, close}
 use Rattle.hol_subst.specs.Variant.{is_free_in}
 use Rattle.hol_subst.proofs.Closing.{nameless_abs, open_close, close_binds}
@@ -170,10 +170,6 @@ reduces basis t v b (comb f y) e h = absurd (true≢false (sym (subst (λ (u : N
 reduces basis t v b (abs w d) e h = absurd (true≢false (sym (subst (λ (u : Named). IsSome (beta_of basis u)) e h)))
 
 -- ---- typing
-
-pub comb_has_type : (f x : Named) (s a : TypeTree) (p : TypeTree × TypeTree) → named_type f ≡ Some s → fun_parts s ≡ Some p → named_type x ≡ Some a → type_eq p.0 a ≡ true → named_type (comb f x) ≡ Some p.1
-comb_has_type f x s a p e g h k =
-    comb_type f x s a e h ∙ ap (λ o. option_and_then (λ r. cond (type_eq r.0 a) (Some r.1) None) o) g ∙ ap (λ j. cond j (Some p.1) None) k
 
 -- the body of an abstraction that is applied has the type of the whole
 pub body_type : (t : Named) (v : List ℕ × TypeTree) (b x : Named) (a : TypeTree) → t ≡ comb (abs v b) x → named_type t ≡ Some a → named_type b ≡ Some a

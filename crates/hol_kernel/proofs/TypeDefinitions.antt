@@ -100,9 +100,6 @@ module _ (items : Items) (c abs rep : List ℕ) (th : Theorem) where
     pub names_taken : are_new_names items c abs rep ≡ false → ⊥
     names_taken e = true≢false (sym (new_names items c abs rep d.predicate d.new d.apart) ∙ e)
 
-    pub no_membership : ((p x : Nameless) → IsMembership th p x → ⊥) → ⊥
-    no_membership none = none d.predicate d.element (d.unconditional, d.is_member)
-
     pub not_closed : (p x : Nameless) → IsMembership th p x → is_closed p ≡ false → ⊥
     not_closed p x m e =
         let whole : app d.predicate d.element ≡ app p x = sym d.is_member ∙ m.1 in

@@ -1,16 +1,16 @@
 -- Well typed terms, and the named terms that they come from.
-use Rattle.std.specs.Prelude.{◌≡◌, ℕ, ◌+◌, Bool, true, false, cond, ◌&&◌, List, [], ◌∷◌, Option, Some, None, is_some, refl}
+use Rattle.std.specs.Prelude.{◌≡◌, ℕ, ◌+◌, Bool, true, false, cond, ◌&&◌, List, [], ◌∷◌, Some, None, is_some, refl}
 use Rattle.std.proofs.Common.{ap, sym, ◌∙◌}
 use Rattle.std.proofs.lemmas.Slice.Eq.{bytes_eq-Decides}
 use Rattle.hol_types.specs.Tree.{TypeTree}
-use Rattle.hol_types.specs.Equal.{type_eq, variable_eq}
+use Rattle.hol_types.specs.Equal.{variable_eq}
 use Rattle.hol_terms.specs.Named.{Named, var, constant, comb, abs, named_type}
-use Rattle.hol_terms.specs.Nameless.{Nameless, base_of, place, nameless}
+use Rattle.hol_terms.specs.Nameless.{base_of, place, nameless}
 use Rattle.hol_terms.proofs.Primes.{base_again}
 use Rattle.hol_terms.proofs.Same.{variable_eq_decides}
 use Rattle.hol_terms.proofs.Typing.{type_outside}
 use Rattle.hol_kernel.specs.Items.{Items}
-use Rattle.hol_kernel.specs.Typing.{is_type, is_base, is_known, type_over, is_typed, is_type_at, has_type, HasType}
+use Rattle.hol_kernel.specs.Typing.{is_type, is_base, is_known, type_over, is_typed, HasType}
 use Rattle.hol_kernel.specs.NamedTyping.{is_known_named}
 
 abbrev Variables : Type 0
@@ -63,14 +63,3 @@ module _ (items : Items) where
   -- the type of a well typed term is that of the named term
   pub typed_type : (t : Named) (a : TypeTree) → named_type t ≡ Some a → is_typed items (nameless [] t) ≡ true → HasType items (nameless [] t) a
   typed_type t a e typed = type_over_named t a e ∙ ap (λ b. cond b (Some a) None) (sym (typed_named t a e) ∙ typed)
-
-  -- whether a term is well typed, of the type b, is decided by its own type
-  pub typed_is : (t : Named) (a b : TypeTree) → named_type t ≡ Some a → is_typed items (nameless [] t) ≡ true → has_type items (nameless [] t) b ≡ type_eq a b
-  typed_is t a b e typed = ap (λ o. is_type_at o b) (typed_type t a e typed)
-
-pub untyped_is : (items : Items) (n : Nameless) (b : TypeTree) → is_typed items n ≡ false → has_type items n b ≡ false
-untyped_is items n b e = by (type_over items n) e
-  where
-    by : (o : Option TypeTree) → is_some o ≡ false → is_type_at o b ≡ false
-    by None e = refl
-    by (Some a) e = absurd (cc)

@@ -64,9 +64,6 @@ equation_typed items a l r stands left right =
 pub refl_typed : (items : Items) (t : Nameless) (a : TypeTree) → HasType items t a → refl_of items t ≡ Some (reflexive t a)
 refl_typed items t a typed = ap (option_map (reflexive t)) typed
 
-pub refl_variable : (items : Items) (v : List ℕ × TypeTree) → is_type items v.1 ≡ true → refl_of items (free v) ≡ Some (reflexive (free v) v.1)
-refl_variable items v stands = refl_typed items (free v) v.1 (variable_typed items v stands)
-
 -- ---- types of the prelude stand over all items
 
 none_made : (c : List ℕ) (n : ℕ) → has_arity no_items c n ≡ list_any (is_constructor c n) prelude_types

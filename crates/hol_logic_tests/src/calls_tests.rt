@@ -7,7 +7,7 @@ use hol_kernel::{Basis, KernelError, Thm, TypeDefinition};
 use hol_notation_tokens::lex;
 use hol_print::show_goal;
 use hol_terms::Term;
-use hol_types::Name;
+use hol_types::{Name, Ty};
 use std::alloc::{AllocError, Global};
 use std::test::Fail;
 
@@ -88,5 +88,41 @@ fn are_answered(written: &Written) -> Result<bool, Fail> {
 fn calls_have_answers(rt: HostRuntime) -> Result<(), Fail> {
     let written = Written::new(rt.alloc())?;
     assert!(rt; are_answered(&written)?);
+    Ok(())
+}
+
+// Whether the first type gives the second where `A` is this type, and nothing else is a variable of it.
+fn is_matched(alloc: Global, from: &Ty, to: &Ty, a: &Ty) -> Result<bool, AllocError> {
+    let Some(pairs) = from.match_to(alloc, to)? else {
+        return Ok(false);
+    };
+    match pairs.as_slice() {
+        [(ty, name)] => Ok(ty.same(a) && name.as_str() == "A"),
+        _ => Ok(false),
+    }
+}
+
+// Whether the first type doesn't give the second.
+fn is_unmatched(alloc: Global, from: &Ty, to: &Ty) -> Result<bool, AllocError> {
+    let found = from.match_to(alloc, to)?;
+    Ok(found.is_none())
+}
+
+// Whether the type of the first gives that of the second where `A` is that of the last, and doesn't give that of the third.
+fn are_types_matched(alloc: Global, terms: &[Term]) -> Result<bool, AllocError> {
+    match terms {
+        [f, g, h, p] => {
+            let is_matched = is_matched(alloc, f.type_of(), g.type_of(), p.type_of())?;
+            Ok(is_matched && is_unmatched(alloc, f.type_of(), h.type_of())?)
+        }
+        _ => Ok(false),
+    }
+}
+
+#[test]
+fn types_are_matched(rt: HostRuntime) -> Result<(), Fail> {
+    let written = Written::new(rt.alloc())?;
+    let terms = written.terms("f:A->A, g:bool->bool, h:bool->ind, p:bool")?;
+    assert!(rt; are_types_matched(written.alloc, &terms)?);
     Ok(())
 }

@@ -2,7 +2,7 @@
 use Rattle.std.proofs.Common.{◌≡◌, ℕ, ◌+◌, ◌<◌, ◌≤◌, List, [], ◌∷◌, length, drop, get_or, refl, sym, ap, ◌∙◌, subst, Bool, true, false, cond, ◌&&◌, bytes_eq, Option, Some, None, arith}
 use Rattle.std.specs.Option.{option_map, option_and_then, option_or}
 use Rattle.std.specs.Int.{bit_at}
-use Rattle.std.specs.Int.Bits.{or_zero_l, or_zero_r}
+use Rattle.std.specs.Int.Bits.{or_zero_r}
 use lib.Bits.{bit_and, bit_or}
 use Rattle.std.proofs.lemmas.List.{drop_all}
 use Rattle.std.proofs.lemmas.Nat.Bits.{bit_at_or, same_from_bits}
@@ -35,13 +35,6 @@ or_assoc a b c = same_from_bits _ _ at_bit
 abbrev pub with_heads : ℕ → List RuleEntry → Option ℕ
 with_heads n es = option_map (bit_or n) (head_bits es)
 
-pub heads_start : (es : List RuleEntry) → head_bits es ≡ with_heads 0 es
-heads_start es = sym (by (head_bits es))
-  where
-    by : (o : Option ℕ) → option_map (bit_or 0) o ≡ o
-    by None = refl
-    by (Some m) = ap Some (or_zero_l m)
-
 pub heads_end : (n : ℕ) (rules : List SetRule) (i : ℕ) → length rules ≤ i → with_heads n (set_rules (drop i rules)) ≡ Some n
 heads_end n rules i h = ap (λ rs. with_heads n (set_rules rs)) (drop_all i rules h) ∙ ap Some (or_zero_r n)
 
@@ -55,9 +48,6 @@ module _ (n : ℕ) (rules : List SetRule) (i : ℕ) (r : SetRule) (l : i < lengt
       by : (o : Option ℕ) → option_map (bit_or n) (option_map (bit_or m) o) ≡ option_map (bit_or (bit_or n m)) o
       by None = refl
       by (Some k) = ap Some (sym (or_assoc n m k))
-
-  pub heads_none : head_bit (set_rule r).rule.left ≡ None → with_heads n (set_rules (drop i rules)) ≡ None
-  heads_none h = heads_at ∙ ap (λ o. option_map (bit_or n) (option_and_then (λ k. option_map (bit_or k) (head_bits (set_rules (drop (i + 1) rules)))) o)) h
 
 -- ---- the bits of a nameless term's constants
 abbrev constant_bits : Nameless → ℕ

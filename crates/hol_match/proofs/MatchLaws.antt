@@ -39,9 +39,6 @@ tells_both P Q found (Some r) go h k = by (go r) (k r)
       λ σ w s pq. l.1 σ w (h.1 σ w s pq.0) pq.1,
     )
 
-tells_none : (P : InstanceValue → Type 0) (found : InstanceValue) → ((σ : InstanceValue) → P σ → ⊥) → Tells P found None
-tells_none P found f = λ σ w s p. f σ p
-
 -- ---- types
 
 tells_type : (s t : TypeTree) (found : InstanceValue) → Tells (λ σ. type_subst σ.types s ≡ t) found (with_type s found t)

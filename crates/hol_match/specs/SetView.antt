@@ -3,10 +3,10 @@ use Rattle.std.specs.Prelude.{◌≡◌, ℕ, Bool, List, ◌++◌, map, slice_g
 use Rattle.std.specs.List.{AllByRecursion}
 use Rattle.hol_types.specs.Tree.{TypeTree}
 use Rattle.hol_terms.specs.Nameless.{Nameless}
-use Rattle.hol_kernel.specs.Given.{Given, given_sequent}
+use Rattle.hol_kernel.specs.Given.{Given}
 use Rattle.hol_kernel.specs.Sequent.{Sequent}
 use Rattle.hol_match.specs.Fixed.{stays, stays_of}
-use Rattle.hol_match.specs.Rules.{RuleValue, rules_of, generalized, single_rule, is_determined}
+use Rattle.hol_match.specs.Rules.{RuleValue, rules_of, single_rule, is_determined}
 use Rattle.hol_match.specs.Listed.{listed}
 use Rattle.hol_match.specs.RuleView.{rule_value}
 use Rattle.hol_match.specs.RuleSets.{RuleEntry, entries}
@@ -33,9 +33,6 @@ set_givens rules = map set_given rules
 -- the variables of what was given that may be instantiated, and its conclusion, generalized over them
 abbrev pub set_variables : SetRule → List (List ℕ × TypeTree)
 set_variables r = r.source.value.variables.items
-
-abbrev pub set_whole : SetRule → Nameless
-set_whole r = generalized (set_variables r) (given_sequent (set_given r)).concl
 
 -- the one rule of a formula, beside what stays in the rule
 abbrev pub set_single : SetRule → Nameless → RuleValue

@@ -82,6 +82,7 @@ impl Instance {
     }
 
     /// Whether a type of the pattern matches the target beside what was found so far. The types that it needs more are put at the end.
+    #[inline(never)]
     pub(crate) fn match_type(
         &mut self,
         fixed: &Fixed,

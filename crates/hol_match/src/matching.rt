@@ -156,6 +156,7 @@ fn abstraction(t: &Term) -> Option<(&Variable, &Term)>
 }
 
 // Whether the term is a variable that is bound at the same depth as `v`.
+#[inline(never)]
 fn is_bound_alike(left: &Scope, v: &Variable, right: &Scope, t: &Term) -> bool
     ensures { result ≡ same_named false (binders left.now) (var v.now) (binders right.now) t.now }
 {
@@ -166,6 +167,7 @@ fn is_bound_alike(left: &Scope, v: &Variable, right: &Scope, t: &Term) -> bool
 }
 
 // The match of a constant.
+#[inline(never)]
 #[tactic(auto, using(crate::proofs::Places::variable_no_constant))]
 fn constant_into(
     fixed: &Fixed,
@@ -188,6 +190,7 @@ fn constant_into(
 }
 
 // The match of a variable that is not bound in the pattern.
+#[inline(never)]
 #[tactic(auto, using(crate::proofs::Places::taken_out))]
 fn variable_into(
     alloc: Global,

@@ -15,9 +15,9 @@ use Rattle.hol_notation_tactics.specs.Text.{TypePairText, ArgumentText, CallText
 use Rattle.hol_notation_tactics.specs.declared.lead.Lead.{Lead}
 use Rattle.hol_notation_tactics.specs.declared.lead.Lead.TheVariants.{Name, Then, ThenL, OrElse, Repeat, Try, Changed, Every, First, Replicate, DischThen, PopAssum, FirstAssum, SubgoalThen, Assume, Refl, Spec, Sym, Conjunct1, Conjunct2, Mp, InstType, Open, OpenList, Backquote}
 use Rattle.hol_notation_tactics.specs.Lead.{lead_of, next_lead, opens_argument}
-use Rattle.hol_notation_tactics.specs.Grammar.{Nonterminal, Opens, tactic_grammar, an_alternative, some_steps, some_arguments, no_alternative, no_step, modified, combined, first_tactic, one_argument, one_theorem, first_theorem, derived, simple}
+use Rattle.hol_notation_tactics.specs.Grammar.{Nonterminal, Opens, tactic_grammar, an_alternative, some_steps, some_arguments, modified, combined, first_tactic, one_argument, one_theorem, first_theorem, derived, simple}
 use Rattle.hol_notation_tactics.proofs.Leads.{lead_found}
-use Rattle.hol_notation_tactics.proofs.Picks.{pick, looks, choose_alternative, choose_steps, choose_application, choose_modified, choose_tactical, choose_atom, choose_theorem_tactic, choose_arguments, choose_argument, choose_group, choose_theorem, choose_derived, choose_simple, choose_tactic_list, choose_more_tactics, choose_theorem_list, choose_more_theorems, choose_more_pairs}
+use Rattle.hol_notation_tactics.proofs.Picks.{pick, looks, choose_application, choose_modified, choose_tactical, choose_atom, choose_theorem_tactic, choose_arguments, choose_argument, choose_group, choose_theorem, choose_derived, choose_simple, choose_tactic_list, choose_more_tactics, choose_theorem_list, choose_more_theorems, choose_more_pairs}
 use Rattle.hol_notation_tactics.proofs.Certain.{certain}
 use Rattle.hol_notation_tactics.proofs.Some.{SomeTree}
 
@@ -41,15 +41,6 @@ pub stuck_missing : (n : Nonterminal) (c : Terminal) (end : ℕ) (words : List L
     → Fails tactic_grammar (above n) end words e
 stuck_missing n c end words Memory m none some = tt
 stuck_missing n c end words (Syntax place) m none some = stuck_at n end words place m.here (none m.none) some
-
-pub rest_alternative : (l : Lead) → (l ≡ OrElse → ⊥) → choose_alternative l ≡ Some no_alternative
-rest_alternative OrElse h0 = absurd (h0 refl)
-rest_alternative _ h0 = refl
-
-pub rest_steps : (l : Lead) → (l ≡ Then → ⊥) → (l ≡ ThenL → ⊥) → choose_steps l ≡ Some no_step
-rest_steps Then h0 h1 = absurd (h0 refl)
-rest_steps ThenL h0 h1 = absurd (h1 refl)
-rest_steps _ h0 h1 = refl
 
 pub rest_application : (l : Lead) → (l ≡ Name → ⊥) → (l ≡ Open → ⊥) → (l ≡ Every → ⊥) → (l ≡ First → ⊥) → choose_application l ≡ Some modified
 rest_application Name h0 h1 h2 h3 = absurd (h0 refl)

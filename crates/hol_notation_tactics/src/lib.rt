@@ -22,7 +22,7 @@ mod type_pair;
 pub use cited_name::CitedName;
 pub use laws::one_reading;
 pub use number::number_value;
-pub use parts::{Part, Role, calls_in, parts_of};
+pub use parts::{Part, Role, calls_in, parts_of, parts_of_theorem};
 pub use tac_arg::{TacArg, TacArgNode};
 pub use tac_call::TacCall;
 pub use tac_expr::{TacExpr, TacExprNode};

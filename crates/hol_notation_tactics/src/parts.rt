@@ -40,12 +40,21 @@ pub enum Part {
 
 type Parts = Vec<Part>;
 
-/// What is written, in text order.
+/// What is written in an expression, in text order.
 pub fn parts_of(alloc: Global, tactic: &TacExpr) -> Result<Vec<Part>, AllocError>
     ensures { IfOk result (λ parts. parts.items ≡ parts_of tactic.now) }
 {
     let mut parts = Vec::new(alloc);
     add_tactic(alloc, &mut parts, tactic)?;
+    Ok(parts)
+}
+
+/// What is written in a theorem, in text order, as if it were written alone.
+pub fn parts_of_theorem(alloc: Global, theorem: &ThmExpr) -> Result<Vec<Part>, AllocError>
+    ensures { IfOk result (λ parts. parts.items ≡ parts_of_theorem theorem.now) }
+{
+    let mut parts = Vec::new(alloc);
+    add_theorem(alloc, &mut parts, theorem)?;
     Ok(parts)
 }
 

@@ -169,11 +169,3 @@ operator_unclosed end words after e x t i m =
     operator_stuck end words e (λ u s. infix_first u x after i t.is (subst (SameNext u) t.whole s))
     (fails_behind term_grammar an_inside operator (λ _. token (sign Close) (λ _. nothing)) end words after e x t.is t.whole
     (fails_missing term_grammar an_inside (sign Close) (λ _. nothing) end after e (λ later k. record { written = leaf (mark Close) done; stands = (refl, tt) }) m))
-
--- a term comes where no constant does, or one that no parenthesis follows
-pub opens_other : (words : List Lexeme) → IsNotNext (Is operator) words → OpensTerm words
-opens_other [] n = tt
-opens_other (x ∷ rest) n = λ o. absurd (n o)
-
-pub opens_prefix : (words after : List Lexeme) (x : Lexeme) → Taken (Is operator) words x after → is_infix x.kind ≡ false → IsNotNext (Is (sign Close)) after → OpensTerm words
-opens_prefix words after x t i n = subst OpensTerm (sym t.whole) (λ o. (i, n))

@@ -16,12 +16,6 @@ mark k = record { kind = k; text = codes "x"; place = 0 }
 abbrev pub Some_tree : Nonterminal → List Lexeme → Type 0
 Some_tree n after = (t : Tree term_grammar n) × Stands t after
 
-pub some_postfix : (after : List Lexeme) → Closes a_postfix after → Some_tree a_postfix after
-some_postfix after k = (node no_postfix done, (shut a_postfix after k, tt))
-
-pub some_arrow : (after : List Lexeme) → Closes an_arrow after → Some_tree an_arrow after
-some_arrow after k = (node no_arrow done, (shut an_arrow after k, tt))
-
 -- what closes a part closes another
 abbrev pub ClosesToo : Nonterminal → Nonterminal → Type 0
 ClosesToo n m = (after : List Lexeme) → Closes n after → Closes m after

@@ -29,7 +29,7 @@ impl<'a> Bare<'a> {
         ensures { IfOk result (λ b. bare_of b ≡ nameless (binders scope.now) t.now) }
     {
         match t.node() {
-            TermNode::Var(v) => occurrence(scope, v, 0),
+            TermNode::Var(v) => occurrence(scope, v),
             TermNode::Const(c, s) => Ok(Bare::Constant(c, s)),
             TermNode::Comb(f, x) => {
                 let f = Bare::new(alloc, f, scope)?;
@@ -44,19 +44,20 @@ impl<'a> Bare<'a> {
     }
 }
 
-// An occurrence of v under the binders, of which the innermost that binds it counts; so many binders inside them are passed already.
-fn occurrence<'a>(scope: &Scope, v: &'a Variable, passed: usize) -> Result<Bare<'a>, AllocError>
-    ensures { IfOk result (λ b. bare_of b ≡ place (binders scope.now) passed v.now) }
+// An occurrence of v under the binders, of which the innermost that binds it counts.
+fn occurrence<'a>(scope: &Scope, v: &'a Variable) -> Result<Bare<'a>, AllocError>
+    ensures { IfOk result (λ b. bare_of b ≡ place (binders scope.now) 0 v.now) }
 {
-    match scope {
-        Scope::Outside => Ok(Bare::Free(v)),
-        Scope::Inside(binder, outer) => {
-            if binder.same(v) {
-                return Ok(Bare::Bound(passed));
-            }
-            occurrence(outer, v, one_more(passed)?)
+    let mut around = scope;
+    let mut passed = 0;
+    'outwards: while let Scope::Inside(binder, outer) = around {
+        if binder.same(v) {
+            return Ok(Bare::Bound(passed));
         }
+        passed = one_more(passed)?;
+        around = outer;
     }
+    Ok(Bare::Free(v))
 }
 
 /// One more. More binders than `usize` counts fit no memory.

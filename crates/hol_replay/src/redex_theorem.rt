@@ -24,7 +24,6 @@ use std::alloc::{AllocError, Global};
 
 /// `|- t = u` for a term `t` of the type that is well typed over the basis, and the `u` that the rule makes of it; under the hypotheses of
 /// the rule's theorem.
-#[inline(never)]
 #[tactic(auto, using(crate::proofs::Instances::redexes))]
 pub(crate) fn redex_theorem(
     alloc: Global,

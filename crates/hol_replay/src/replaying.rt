@@ -9,12 +9,13 @@ ghost use Rattle.hol_match.specs.Givens.{all_hold, all_hyps};
 ghost use Rattle.hol_replay.specs.Replays.{trace_equation};
 ghost use Rattle.hol_replay.specs.NodeTheorems.{IsNode};
 
-use crate::consumed::{in_abstraction, in_application, one_after_other};
+use crate::consumed::{
+    in_abstraction, in_application, one_after_other, reduced, replaced, unchanged,
+};
 use crate::parts::{abstraction, application};
-use crate::redex_theorem::redex_theorem;
 use hol_conv::{Trace, TraceNode, body_at};
 use hol_derived::Lemmas;
-use hol_equal::applied::{beta_conv, refl, sides_of};
+use hol_equal::applied::sides_of;
 use hol_formulas::occurrence;
 use hol_kernel::{Basis, Thm};
 use hol_terms::{Term, Variable};
@@ -39,7 +40,8 @@ pub fn replay(
     ensures kept { lemmas.new ≡ lemmas.old }
 {
     let t = trace.old();
-    node_theorem(alloc, lemmas, basis, trace.node(), t.type_of(), t)
+    let th = node_theorem(alloc, lemmas, basis, trace.node(), t.type_of(), t)?;
+    Ok(Box::into_inner(th))
 }
 
 // The same of a node, for a term of the type.
@@ -52,21 +54,21 @@ fn node_theorem(
     node: &TraceNode,
     ty: &Ty,
     t: &Term,
-) -> Result<Thm, AllocError>
+) -> Result<Box<Thm>, AllocError>
     requires one_basis { lemmas.old ≡ basis.now }
     requires given { IsTrue (all_hold (used node.now) basis.now) }
     requires known { is_known_named basis.now t.now ≡ true }
     requires typed { named_type t.now ≡ Some ty.now }
     requires traced { IsSome (traced node.now (nameless [] t.now)) }
-    ensures gives { IfOk result (λ th. IsNode basis.now (all_hyps (used node.now)) ty.now (nameless [] t.now) (traced node.now (nameless [] t.now)) th) }
+    ensures gives { IfOk result (λ th. IsNode basis.now (all_hyps (used node.now)) ty.now (nameless [] t.now) (traced node.now (nameless [] t.now)) th.value) }
     ensures kept { lemmas.new ≡ lemmas.old }
 {
     match node {
-        TraceNode::Same => refl(alloc, basis, ty, t),
+        TraceNode::Same => unchanged(alloc, basis, ty, t),
         TraceNode::Parts(f, x) => parts_theorem(alloc, lemmas, basis, f, x, ty, t),
         TraceNode::Body(v, b) => body_theorem(alloc, lemmas, basis, v, b, ty, t),
-        TraceNode::Rule(rule) => redex_theorem(alloc, lemmas, basis, rule, ty, t),
-        TraceNode::Beta => beta_conv(alloc, basis, ty, t),
+        TraceNode::Rule(rule) => replaced(alloc, lemmas, basis, rule, ty, t),
+        TraceNode::Beta => reduced(alloc, basis, ty, t),
         TraceNode::Both(_, a, b) => both_theorem(alloc, lemmas, basis, a, b, ty, t),
     }
 }
@@ -83,13 +85,13 @@ fn parts_theorem(
     argument: &TraceNode,
     ty: &Ty,
     t: &Term,
-) -> Result<Thm, AllocError>
+) -> Result<Box<Thm>, AllocError>
     requires one_basis { lemmas.old ≡ basis.now }
     requires given { IsTrue (all_hold (used function.now ++ used argument.now) basis.now) }
     requires known { is_known_named basis.now t.now ≡ true }
     requires typed { named_type t.now ≡ Some ty.now }
     requires traced { IsSome (in_parts (traced function.now) (traced argument.now) (nameless [] t.now)) }
-    ensures gives { IfOk result (λ th. IsNode basis.now (all_hyps (used function.now ++ used argument.now)) ty.now (nameless [] t.now) (in_parts (traced function.now) (traced argument.now) (nameless [] t.now)) th) }
+    ensures gives { IfOk result (λ th. IsNode basis.now (all_hyps (used function.now ++ used argument.now)) ty.now (nameless [] t.now) (in_parts (traced function.now) (traced argument.now) (nameless [] t.now)) th.value) }
     ensures kept { lemmas.new ≡ lemmas.old }
 {
     let (f, x) = application(t);
@@ -110,13 +112,13 @@ fn body_theorem(
     body: &TraceNode,
     ty: &Ty,
     t: &Term,
-) -> Result<Thm, AllocError>
+) -> Result<Box<Thm>, AllocError>
     requires one_basis { lemmas.old ≡ basis.now }
     requires given { IsTrue (all_hold (used body.now) basis.now) }
     requires known { is_known_named basis.now t.now ≡ true }
     requires typed { named_type t.now ≡ Some ty.now }
     requires traced { IsSome (in_body v.now (used body.now) (traced body.now) (nameless [] t.now)) }
-    ensures gives { IfOk result (λ th. IsNode basis.now (all_hyps (used body.now)) ty.now (nameless [] t.now) (in_body v.now (used body.now) (traced body.now) (nameless [] t.now)) th) }
+    ensures gives { IfOk result (λ th. IsNode basis.now (all_hyps (used body.now)) ty.now (nameless [] t.now) (in_body v.now (used body.now) (traced body.now) (nameless [] t.now)) th.value) }
     ensures kept { lemmas.new ≡ lemmas.old }
 {
     let (w, b) = abstraction(t);
@@ -138,18 +140,18 @@ fn both_theorem(
     second: &TraceNode,
     ty: &Ty,
     t: &Term,
-) -> Result<Thm, AllocError>
+) -> Result<Box<Thm>, AllocError>
     requires one_basis { lemmas.old ≡ basis.now }
     requires given { IsTrue (all_hold (used first.now ++ used second.now) basis.now) }
     requires known { is_known_named basis.now t.now ≡ true }
     requires typed { named_type t.now ≡ Some ty.now }
     requires traced { IsSome (option_and_then (traced second.now) (traced first.now (nameless [] t.now))) }
-    ensures gives { IfOk result (λ th. IsNode basis.now (all_hyps (used first.now ++ used second.now)) ty.now (nameless [] t.now) (option_and_then (traced second.now) (traced first.now (nameless [] t.now))) th) }
+    ensures gives { IfOk result (λ th. IsNode basis.now (all_hyps (used first.now ++ used second.now)) ty.now (nameless [] t.now) (option_and_then (traced second.now) (traced first.now (nameless [] t.now))) th.value) }
     ensures kept { lemmas.new ≡ lemmas.old }
 {
     let left = node_theorem(alloc, lemmas, basis, first, ty, t)?;
     left.well_typed();
-    let Some(sides) = sides_of(&left) else {
+    let Some(sides) = sides_of(&*left) else {
         unreachable!()
     };
     let right = node_theorem(alloc, lemmas, basis, second, ty, sides.right)?;

@@ -5,18 +5,12 @@ use Rattle.std.proofs.lemmas.List.{drop_all}
 use Rattle.hol_resolve.specs.declared.quotations.AnyQuotation.{AnyQuotation}
 use Rattle.hol_resolve.specs.declared.attempts.Attempt.{Attempt}
 use Rattle.hol_resolve.specs.Signature.{SignatureValue}
-use Rattle.hol_resolve.specs.Quotations.{place_of}
-use Rattle.hol_resolve.specs.Readings.{Attempts, IsQuotedAs, AreAttempts}
+use Rattle.hol_resolve.specs.Readings.{Attempts, AreAttempts}
 use Rattle.hol_resolve.specs.ReadingView.{attempt_value, attempts_value}
 
 pushed : (done : List (ℕ × Attempt)) (place : ℕ) (a : Attempt) (rest : Attempts) → attempts_value done ++ ((place, attempt_value a) ∷ rest) ≡ attempts_value (done ++ (place, a) ∷ []) ++ rest
 pushed [] place a rest = refl
 pushed (d ∷ done) place a rest = ap (λ ds. (d.0, attempt_value d.1) ∷ ds) (pushed done place a rest)
-
-pub attempts_push : (over : SignatureValue) (all tail : List AnyQuotation) (q : AnyQuotation) (done : List (ℕ × Attempt)) (place : ℕ) (a : Attempt) →
-    ((rest : Attempts) → AreAttempts over (q ∷ tail) rest → AreAttempts over all (attempts_value done ++ rest)) → place ≡ place_of q → IsQuotedAs over q (attempt_value a) →
-    (rest : Attempts) → AreAttempts over tail rest → AreAttempts over all (attempts_value (done ++ (place, a) ∷ []) ++ rest)
-attempts_push over all tail q done place a h p is rest g = subst (AreAttempts over all) (pushed done place a rest) (h ((place, attempt_value a) ∷ rest) (p, is, g))
 
 append_nil : (attempts : Attempts) → attempts ++ [] ≡ attempts
 append_nil [] = refl

@@ -17,7 +17,6 @@ mod refusal;
 mod rules;
 mod signature;
 mod sizes;
-mod theorem_parts;
 mod theorems;
 mod written;
 
@@ -30,6 +29,5 @@ pub use reading_all::read_quotations;
 pub use readings::{Quoted, Readings};
 pub use refusal::Refusal;
 pub use signature::Signature;
-pub use theorem_parts::parts_of_theorem;
 pub use theorems::theorem_written;
 pub use written::{WrittenArgs, written_as};

@@ -1,11 +1,11 @@
 -- The steps of the loop over a chunk, over plain variables.
-use Rattle.std.proofs.Common.{not, ◌&&◌, suc, if◌then◌else◌, ◌≡◌, ◌≢◌, ◌==◌, ℕ, ◌+◌, ◌<◌, List, [], ◌∷◌, ◌++◌, length, take, drop, get_or, Bool, true, false, Option, refl, sym, ◌∙◌, ap, subst, arith}
+use Rattle.std.proofs.Common.{◌≡◌, ◌≢◌, ◌==◌, ℕ, ◌+◌, ◌<◌, List, [], ◌∷◌, ◌++◌, length, take, drop, get_or, Bool, true, false, Option, refl, sym, ◌∙◌, ap, subst, arith}
 use Rattle.std.proofs.lemmas.List.{take_more, take-append-drop}
 use Rattle.std.proofs.lemmas.Grind.{common_steps}
 use Rattle.std.proofs.lemmas.Bool.Decides.{nat_tests}
 use Rattle.std.specs.Io.KnownBytes.{Appends}
 use Rattle.std.proofs.KnownBytes.{Appends-nil, Appends-trans}
-use Rattle.hol_session.specs.Lines.{newline, StandsFor, unless_empty, ended_lines, begun_line}
+use Rattle.hol_session.specs.Lines.{newline, StandsFor, ended_lines, begun_line}
 use Rattle.hol_session.specs.Session.{Answers, AnswersInPart}
 use Rattle.hol_session.proofs.Cutting.{ended_lines_joined, begun_line_joined, ended_lines_at_newline, begun_line_at_newline, ended_lines_at_other, begun_line_at_other}
 use Rattle.hol_session.proofs.Sessions.{Machine, answers_more, answers_closed, answers_one, part_of_one, part_more_lines, part_after}
@@ -106,12 +106,3 @@ line_fails may held holds holds' old now new kept overlong begun chunk i below i
       rw rest.1 (part_more_lines may old new (ended_lines begun (take i chunk) ++ line ∷ []) rest.0 (replies ++ served.0)
           (part_after may old now new (ended_lines begun (take i chunk)) (line ∷ []) replies served.0 answers (part_of_one may now new line served.0 served.1 served.2 served.4 served.5))),
     )
-
--- the bytes of a line buffer that is short tell whether there is a line
-pub line_is_empty : (kept : List ℕ) (overlong : Bool) (begun : List ℕ) → StandsFor kept overlong begun
-    → (empty : Bool) → empty ≡ (not overlong && (length kept == 0)) → unless_empty begun ≡ (if empty then [] else begun ∷ [])
-line_is_empty kept true [] h empty e = absurd (omega arith)
-line_is_empty kept true (b ∷ bs) h empty e = rw e refl
-line_is_empty kept false [] (e, _) empty is = rw (is, e) refl
-line_is_empty kept false (b ∷ bs) (e, _) empty is =
-    let none : (suc (length bs) == 0) ≡ false = grind (arith, nat_tests) in rw (is, e, none) refl

@@ -4,7 +4,7 @@ use Rattle.std.proofs.lemmas.Grind.{common_steps}
 use Rattle.std.specs.Io.KnownBytes.{Appends, Consumes, IsAtEnd}
 use Rattle.std.proofs.KnownBytes.{Appends-nil, Appends-trans, Consumes-nil, Consumes-trans}
 use Rattle.hol_session.specs.Lines.{StandsFor, unless_empty, ended_lines, begun_line}
-use Rattle.hol_session.specs.Session.{Answers, AnswersInPart, CountsUp, Finishes, StopsReading, StopsWriting}
+use Rattle.hol_session.specs.Session.{Answers, AnswersInPart, CountsUp, Finishes, StopsWriting}
 use Rattle.hol_session.proofs.Cutting.{ended_lines_joined, begun_line_joined}
 use Rattle.hol_session.proofs.Sessions.{Machine, answers_more, part_after}
 
@@ -61,13 +61,6 @@ run_fails may first left left' held holds holds' old now new kept overlong chunk
       inl (rw (ended_lines_joined [] read chunk)
           (part_after may old now new (ended_lines [] read) (ended_lines (begun_line [] read) chunk) replies more answers part)),
     )
-
-pub run_stops : {S : Type 0} (may : Machine S) (first left left' held holds : Option (List ℕ)) (old now : S) (kept : List ℕ) (overlong : Bool)
-    → Runs may first left held holds old now kept overlong → Consumes left left' []
-    → StopsReading may old now first left' held holds
-run_stops may first left left' held holds old now kept overlong (read, replies, consumes, stands, appends, answers) takes =
-    let none : read ++ [] ≡ read = grind (arith, common_steps) in
-    (read, replies, rw none at (Consumes-trans first left left' read [] consumes takes), appends, answers)
 
 pub run_ends : {S : Type 0} (may : Machine S) (first left left' held holds holds' : Option (List ℕ)) (old now new : S) (kept : List ℕ) (overlong : Bool)
     → Runs may first left held holds old now kept overlong → Consumes left left' [] → IsAtEnd left'

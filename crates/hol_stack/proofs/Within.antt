@@ -35,9 +35,6 @@ split x (y ∷ xs) ys (inr i) = elim (split x xs ys i) [ inl j ↦ inl (inr j) |
 abbrev pub AreHeld : Items → List Item → Type 0
 AreHeld items xs = (x : Item) → Among x xs → Holds items x
 
-pub none_held : (items : Items) (xs : List Item) → AreHeld items (take 0 xs)
-none_held items xs x i = absurd i
-
 name_of : (o : Option (List ℕ)) → is_some o ≡ true → (name : List ℕ) × (o ≡ Some name)
 name_of None e = absurd (cc)
 name_of (Some name) e = (name, refl)

@@ -1,5 +1,5 @@
 -- Equations of applications, taken apart.
-use Rattle.std.specs.Prelude.{◌≡◌, [], Some, None}
+use Rattle.std.specs.Prelude.{◌≡◌, [], Some}
 use Rattle.std.specs.Option.{option_and_then}
 use Rattle.std.proofs.Common.{ap, sym, ◌∙◌}
 use Rattle.hol_terms.specs.Named.{Named, comb, named_type}
@@ -8,21 +8,12 @@ use Rattle.hol_formulas.specs.Equation.{Sides, dest_comb, dest_eq, equation}
 use Rattle.hol_kernel.proofs.Sound.{sides_is}
 use Rattle.hol_goal.specs.Goal.{GoalValue}
 use Rattle.hol_just.specs.EquationTacs.{of_applications}
-use Rattle.hol_steps.specs.Applications.{OnApplications, HasNoApplications, AreApplications}
+use Rattle.hol_steps.specs.Applications.{OnApplications, AreApplications}
 
 module _ (goal : GoalValue) (w : Nameless) (same : w ≡ goal.conclusion) where
-  pub no_equation : dest_eq w ≡ None → HasNoApplications goal
-  no_equation e on = ap (option_and_then (λ s. option_and_then (λ p. option_and_then (on p) (dest_comb s.right)) (dest_comb s.left))) (ap dest_eq (sym same) ∙ e)
-
   module _ (x : Sides) (is : dest_eq w ≡ Some x) where
     taken : (on : OnApplications) → of_applications on goal ≡ option_and_then (λ p. option_and_then (on p) (dest_comb x.right)) (dest_comb x.left)
     taken on = ap (option_and_then (λ s. option_and_then (λ p. option_and_then (on p) (dest_comb s.right)) (dest_comb s.left))) (ap dest_eq (sym same) ∙ is)
-
-    pub no_left : dest_comb x.left ≡ None → HasNoApplications goal
-    no_left e on = taken on ∙ ap (option_and_then (λ p. option_and_then (on p) (dest_comb x.right))) e
-
-    pub no_right : (p : Nameless × Nameless) → dest_comb x.left ≡ Some p → dest_comb x.right ≡ None → HasNoApplications goal
-    no_right p e f on = taken on ∙ ap (option_and_then (λ q. option_and_then (on q) (dest_comb x.right))) e ∙ ap (option_and_then (on p)) f
 
     pub both_sides :
         (l r f a g b : Named) → x.left ≡ nameless [] l → x.right ≡ nameless [] r → l ≡ comb f a → r ≡ comb g b → named_type l ≡ Some x.sides_type → named_type r ≡ Some x.sides_type →

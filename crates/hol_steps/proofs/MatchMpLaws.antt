@@ -445,9 +445,3 @@ leaves_as th own mine vs us p q w c moves a b d e h =
     subst (λ (ns : List (List ℕ × TypeTree)). LeavesPremise th ns us q c moves) a
     (subst (λ (ns : List (List ℕ × TypeTree)). LeavesPremise th own ns q c moves) b
     (subst (λ (n : Nameless). LeavesPremise th own vs n c moves) d (subst (λ (n : Nameless). LeavesPremise th own vs p n moves) e h)))
-
-pub goals_as :
-    {E : Type 0} (r : Result Step E) (goal left : GoalValue) (whole e : Nameless) → left ≡ concluding goal whole → whole ≡ e → IfOk r (λ step. step.goals.items ≡ left ∷ []) →
-    IfOk r (λ step. step.goals.items ≡ concluding goal e ∷ [])
-goals_as (Ok step) goal left whole e is same h = h ∙ ap (λ (g : GoalValue). g ∷ []) (is ∙ ap (concluding goal) same)
-goals_as (Err f) goal left whole e is same h = h

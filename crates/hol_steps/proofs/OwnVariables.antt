@@ -19,10 +19,9 @@ use Rattle.hol_formulas.specs.Equation.{bool_type}
 use Rattle.hol_formulas.specs.Formula.{quantifier_type, universal}
 use Rattle.hol_formulas.specs.Making.{mk_forall}
 use Rattle.hol_derived.specs.Rules.{over_variable}
-use Rattle.hol_kernel.specs.Given.{Given, proved, assumed, given_sequent}
+use Rattle.hol_kernel.specs.Given.{Given, assumed, given_sequent}
 use Rattle.hol_kernel.specs.Items.{Items}
 use Rattle.hol_kernel.specs.Sequent.{Hyps, hyps_of, only_hyp, sequent_of}
-use Rattle.hol_kernel.specs.Theorem.{Theorem, theorem_on}
 use Rattle.hol_kernel.specs.Typing.{HasType}
 use Rattle.hol_kernel.proofs.Variables.{known_typed}
 use Rattle.hol_match.specs.Fixed.{fixed_variables}
@@ -154,10 +153,6 @@ assumed_generalized p = record {
   sequent = ap (λ (vs : List (List ℕ × TypeTree)). sequent_of (only_hyp (nameless [] p)) (universals vs (nameless [] p))) (sym (assumed_own p));
   over = λ basis. refl;
 }
-
-pub proved_generalized :
-    (t r : Theorem) → r ≡ theorem_on t.basis (sequent_of t.sequent.hyps (universals (own_variables (proved t)) t.sequent.concl)) → IsGeneralized (proved t) (proved r)
-proved_generalized t r is = record { sequent = ap (λ (z : Theorem). z.sequent) is; over = λ basis. ap (λ (z : Theorem). set.is_subset z.basis basis) is }
 
 -- ---- quantifiers, from the last one on
 

@@ -148,15 +148,6 @@ module _ (s : Named) (v : Variable) where
   pub at_variable : (u : Variable) → alpha_eq (free u) (nameless [] s) ≡ false → free u ≡ replace_each (nameless [] s) (free v) (free u)
   at_variable u h = ap (λ b. cond b (free v) (free u)) (sym h)
 
-  pub at_constant : (c : List ℕ) (a : TypeTree) → alpha_eq (fixed c a) (nameless [] s) ≡ false → fixed c a ≡ replace_each (nameless [] s) (free v) (fixed c a)
-  at_constant c a h = ap (λ b. cond b (free v) (fixed c a)) (sym h)
-
-  pub at_application :
-      (f x g y : Named) → alpha_eq (nameless [] (comb f x)) (nameless [] s) ≡ false → nameless [] g ≡ replace_each (nameless [] s) (free v) (nameless [] f) →
-      nameless [] y ≡ replace_each (nameless [] s) (free v) (nameless [] x) → nameless [] (comb g y) ≡ replace_each (nameless [] s) (free v) (nameless [] (comb f x))
-  at_application f x g y h p q =
-      (λ i. app (p i) (q i)) ∙ ap (λ b. cond b (free v) (app (replace_each (nameless [] s) (free v) (nameless [] f)) (replace_each (nameless [] s) (free v) (nameless [] x)))) (sym h)
-
   pub at_abstraction :
       (u : Variable) (b m : Named) → alpha_eq (nameless [] (abs u b)) (nameless [] s) ≡ false → binds (free_occurrences (nameless [] s)) u ≡ false → variable_eq u v ≡ false →
       nameless [] m ≡ replace_each (nameless [] s) (free v) (nameless [] b) → nameless [] (abs u m) ≡ replace_each (nameless [] s) (free v) (nameless [] (abs u b))

@@ -127,13 +127,13 @@ module _ (pairs : List (TypeTree × List ℕ)) (old new : Variables) (v : Var) w
       by true d f r = later (r f)
       by false d f r = here r (variable_eq (image pairs old new x) u) (is_free_in (map (λ t. nameless [] t) (images_without pairs old new v ws)) u) d refl refl f
 
-  avoided_captured : (b : Named) (u : Var) → is_free_in (map (λ t. nameless [] t) (images_without pairs old new v (add_all [] (free_occurrences (nameless [] b))))) u ≡ true → Captures (λ x. var (image pairs old new x)) v b u
+  pub avoided_captured : (b : Named) (u : Var) → is_free_in (map (λ t. nameless [] t) (images_without pairs old new v (add_all [] (free_occurrences (nameless [] b))))) u ≡ true → Captures (λ x. var (image pairs old new x)) v b u
   avoided_captured b u e = by (image_found (add_all [] (free_occurrences (nameless [] b))) u e)
     where
       by : IsImageOf (add_all [] (free_occurrences (nameless [] b))) u → Captures (λ x. var (image pairs old new x)) v b u
       by i = record { other = i.of; in_body = occurs_is i.of b ∙ all_from [] (free_occurrences (nameless [] b)) i.of i.in_list; differs = i.differs; comes = i.is }
 
-  captured_avoided : (b : Named) (u : Var) → Captures (λ x. var (image pairs old new x)) v b u → is_free_in (map (λ t. nameless [] t) (images_without pairs old new v (add_all [] (free_occurrences (nameless [] b))))) u ≡ true
+  pub captured_avoided : (b : Named) (u : Var) → Captures (λ x. var (image pairs old new x)) v b u → is_free_in (map (λ t. nameless [] t) (images_without pairs old new v (add_all [] (free_occurrences (nameless [] b))))) u ≡ true
   captured_avoided b u c = by (is_free_in (map (λ t. nameless [] t) (images_without pairs old new v (add_all [] (free_occurrences (nameless [] b))))) u) refl
     where
       by : (t : Bool) → is_free_in (map (λ t. nameless [] t) (images_without pairs old new v (add_all [] (free_occurrences (nameless [] b))))) u ≡ t → t ≡ true

@@ -14,6 +14,7 @@ pub mod Strip
 pub mod TypesInst
 pub mod InstSteps
 pub mod Kept
+pub mod Alike
 pub mod Binders
 pub mod Opening
 pub mod Composition

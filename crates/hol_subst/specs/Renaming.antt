@@ -1,14 +1,14 @@
 -- What the code says of itself where it instantiates types under binders. The binders that it passed are `old`, the innermost first, and `new`
 -- are those that stand for them. Laws in proofs/ lead from here to nameless terms.
-use Rattle.std.specs.Prelude.{◌≡◌, ℕ, List, [], ◌∷◌, true, cond, Some}
+use Rattle.std.specs.Prelude.{◌≡◌, ℕ, List, [], ◌∷◌, Bool, true, cond, not, ◌&&◌, bytes_eq, Some}
 use Rattle.std.specs.Int.{bit_at}
 use Rattle.hol_types.specs.Tree.{TypeTree}
 use Rattle.hol_types.specs.Subst.{type_subst}
 use Rattle.hol_types.specs.Equal.{variable_eq}
 use Rattle.hol_types.specs.Filter.{name_place}
 use Rattle.hol_terms.specs.Named.{Named, var, named_type}
-use Rattle.hol_terms.specs.Nameless.{place, nameless}
-use Rattle.hol_terms.specs.Scoped.{occurs_in}
+use Rattle.hol_terms.specs.Nameless.{base_of, place, nameless}
+use Rattle.hol_terms.specs.Scoped.{binds, occurs_in}
 use Rattle.hol_subst.specs.Substitution.{variable_inst, types_inst}
 use Rattle.hol_subst.specs.Substituted.{IsSubstituted}
 
@@ -22,6 +22,25 @@ image pairs (l ∷ old) (r ∷ new) v = cond (variable_eq l v) r (image pairs ol
 abbrev pub images_without : List (TypeTree × List ℕ) → List (List ℕ × TypeTree) → List (List ℕ × TypeTree) → List ℕ × TypeTree → List (List ℕ × TypeTree) → List Named
 images_without pairs old new v [] = []
 images_without pairs old new v (w ∷ ws) = cond (variable_eq w v) (images_without pairs old new v ws) (var (image pairs old new w) ∷ images_without pairs old new v ws)
+
+-- what stands for each of the variables, as terms
+abbrev pub images_of : List (TypeTree × List ℕ) → List (List ℕ × TypeTree) → List (List ℕ × TypeTree) → List (List ℕ × TypeTree) → List Named
+images_of pairs old new [] = []
+images_of pairs old new (w ∷ ws) = var (image pairs old new w) ∷ images_of pairs old new ws
+
+-- w is another variable than v, and differs from it in name by primes alone: what stands for others has no name that a variant of v may have
+abbrev pub is_alike : List ℕ × TypeTree → List ℕ × TypeTree → Bool
+is_alike v w = bytes_eq (base_of w.0) (base_of v.0) && not (variable_eq w v)
+
+-- w is alike, and free in t under the binders inner
+abbrev pub is_alike_in : List ℕ × TypeTree → List (List ℕ × TypeTree) → Named → List ℕ × TypeTree → Bool
+is_alike_in v inner t w = is_alike v w && (not (binds inner w) && occurs_in w t)
+
+-- each new binder has the old one's name but for primes at its end
+abbrev pub KeepsBases : List (List ℕ × TypeTree) → List (List ℕ × TypeTree) → Type 0
+KeepsBases [] new = Unit {0}
+KeepsBases (l ∷ old) [] = Unit {0}
+KeepsBases (l ∷ old) (r ∷ new) = (base_of r.0 ≡ base_of l.0) × KeepsBases old new
 
 -- each new binder has the instance of the old one's type
 abbrev pub KeepsTypes : List (TypeTree × List ℕ) → List (List ℕ × TypeTree) → List (List ℕ × TypeTree) → Type 0

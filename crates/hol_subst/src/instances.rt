@@ -1,21 +1,22 @@
 //! Instantiation of type variables in terms.
-ghost use Rattle.std.specs.Prelude.{◌≡◌, ◌⊎◌, ◌∷◌, ◌++◌, [], map, IfOk, OnOk, MatchOption, List, ℕ};
+ghost use Rattle.std.specs.Prelude.{◌≡◌, ◌⊎◌, ◌&&◌, ◌||◌, not, ◌∷◌, ◌++◌, [], map, IfOk, OnOk, MatchOption, List, ℕ};
 ghost use Rattle.hol_types.specs.Tree.{TypeTree};
 ghost use Rattle.hol_types.specs.Subst.{type_subst};
+ghost use Rattle.hol_types.specs.Equal.{variable_eq};
 ghost use Rattle.hol_terms.specs.Named.{var, constant};
-ghost use Rattle.hol_terms.specs.Nameless.{nameless, free_occurrences};
+ghost use Rattle.hol_terms.specs.Nameless.{nameless, base_of, free_occurrences};
 ghost use Rattle.hol_terms.specs.Scope.{binders};
-ghost use Rattle.hol_terms.specs.Scoped.{add_all};
+ghost use Rattle.hol_terms.specs.Scoped.{binds, add_all};
 ghost use Rattle.hol_subst.specs.Substitution.{variable_inst, types_inst};
 ghost use Rattle.hol_subst.specs.Substituted.{IsInst};
-ghost use Rattle.hol_subst.specs.Variant.{IsVariant};
-ghost use Rattle.hol_subst.specs.Renaming.{image, images_without, KeepsTypes, IsInstance, HasRenamed};
+ghost use Rattle.hol_subst.specs.Variant.{is_free_in, IsVariant};
+ghost use Rattle.hol_subst.specs.Renaming.{image, images_without, images_of, is_alike, is_alike_in, KeepsTypes, KeepsBases, IsInstance, HasRenamed};
 ghost use Rattle.hol_types.specs.Filter.{name_bit, pairs_filter};
 ghost use Rattle.std.specs.Int.RustNames.{bit_or};
 
 use crate::rebuilt::{changed_abstraction, changed_application, changed_twice, operator};
 use crate::variants::variant;
-use hol_terms::{Scope, Term, TermNode, Variable};
+use hol_terms::{Scope, Term, TermNode, Variable, base_name, contains};
 use hol_types::{Name, NameFilter, Ty};
 use std::alloc::{AllocError, Global};
 
@@ -24,6 +25,13 @@ use std::alloc::{AllocError, Global};
 struct Types<'a> {
     pairs: &'a [(Ty, Name)],
     names: NameFilter,
+}
+
+// A bound variable, and its name without the primes at the end.
+#[derive(Clone, Copy)]
+struct Alike<'a> {
+    v: &'a Variable,
+    base: &'a str,
 }
 
 /// The term with types for its type variables, of which the first pair of a name counts.
@@ -71,6 +79,7 @@ fn changed(
 ) -> Result<Term, AllocError>
     requires types { KeepsTypes types.now.pairs.now (binders old.now) (binders new.now) }
     requires names { types.now.names.bits ≡ pairs_filter types.now.pairs.now }
+    requires bases { KeepsBases (binders old.now) (binders new.now) }
     requires renamed { HasRenamed types.now.pairs.now (binders old.now) (binders new.now) renamed.bits }
     ensures { IfOk result (λ r. IsInstance types.now.pairs.now (binders old.now) (binders new.now) t.now r) }
 {
@@ -160,6 +169,7 @@ fn new_binder(
     v: &Variable,
     body: &Term,
 ) -> Result<Variable, AllocError>
+    requires { KeepsBases (binders old.now) (binders new.now) }
     ensures { IfOk result (λ u. IsVariant (map (λ t. nameless [] t) (images_without pairs.now (binders old.now) (binders new.now) v.now (add_all [] (free_occurrences (nameless [] body.now))))) (variable_inst pairs.now v.now) u) }
 {
     let others = other_images(alloc, pairs, old, new, v, body)?;
@@ -167,7 +177,7 @@ fn new_binder(
     variant(alloc, &others, &own)
 }
 
-// What stands for the free variables of the body other than the bound one, as terms.
+// What stands for the free variables of the body other than the bound one, as terms, as far as a variant of that one may meet it.
 fn other_images(
     alloc: Global,
     pairs: &[(Ty, Name)],
@@ -176,14 +186,105 @@ fn other_images(
     v: &Variable,
     body: &Term,
 ) -> Result<Vec<Term>, AllocError>
-    ensures { IfOk result (λ ts. ts.items ≡ images_without pairs.now (binders old.now) (binders new.now) v.now (add_all [] (free_occurrences (nameless [] body.now)))) }
+    requires { KeepsBases (binders old.now) (binders new.now) }
+    ensures { IfOk result (λ ts. (u : List ℕ × TypeTree) → base_of u.0 ≡ base_of v.now.0 → is_free_in (map (λ t. nameless [] t) ts.items) u ≡ is_free_in (map (λ t. nameless [] t) (images_without pairs.now (binders old.now) (binders new.now) v.now (add_all [] (free_occurrences (nameless [] body.now))))) u) }
 {
-    let frees = body.frees(alloc)?;
-    let mut images = Vec::new(alloc);
-    for w in &frees {
-        if !w.same(v) {
-            push_image(alloc, &mut images, pairs, old, new, w)?;
+    let base = base_name(v.name().as_str());
+    let mut found = Vec::new(alloc);
+    add_alike(&Alike { v, base }, &Scope::Outside, body, &mut found)?;
+    images(alloc, pairs, old, new, &found)
+}
+
+// Puts each variable alike that is free in the term, and not there yet, at the end. Of the binders that were passed only those that are
+// alike bind one.
+fn add_alike(
+    alike: &Alike<'_>,
+    inner: &Scope,
+    t: &Term,
+    found: &mut Vec<Variable>,
+) -> Result<(), AllocError>
+    requires { alike.now.base.now ≡ base_of alike.now.v.now.0 }
+    ensures { OnOk result ((w : List ℕ × TypeTree) → binds found.new.items w ≡ (binds found.old.items w || is_alike_in alike.now.v.now (binders inner.now) t.now w)) }
+{
+    match t.node() {
+        TermNode::Var(w) => add_variable(alike, inner, w, found),
+        TermNode::Const(_, _) => Ok(()),
+        TermNode::Comb(f, x) => {
+            add_alike(alike, inner, f, found)?;
+            add_alike(alike, inner, x, found)
         }
+        TermNode::Abs(l, b) => {
+            if is_alike(alike, l) {
+                return add_alike(alike, &Scope::Inside(l, &*inner), b, found);
+            }
+            add_alike(alike, inner, b, found)
+        }
+    }
+}
+
+// Puts the variable at the end, if it is alike, free under the binders, and not there yet.
+fn add_variable(
+    alike: &Alike<'_>,
+    inner: &Scope,
+    w: &Variable,
+    found: &mut Vec<Variable>,
+) -> Result<(), AllocError>
+    requires { alike.now.base.now ≡ base_of alike.now.v.now.0 }
+    ensures { OnOk result ((u : List ℕ × TypeTree) → binds found.new.items u ≡ (binds found.old.items u || is_alike_in alike.now.v.now (binders inner.now) (var w.now) u)) }
+{
+    if is_new(alike, inner, w, found) {
+        found.push(w.copy()?)?;
+    }
+    Ok(())
+}
+
+// Whether the variable is alike, free under the binders, and none of those that were found.
+fn is_new(alike: &Alike<'_>, inner: &Scope, w: &Variable, found: &[Variable]) -> bool
+    requires { alike.now.base.now ≡ base_of alike.now.v.now.0 }
+    ensures { result ≡ (is_alike alike.now.v.now w.now && (not (binds found.now w.now) && not (binds (binders inner.now) w.now))) }
+{
+    is_alike(alike, w) && !contains(found, w) && !is_bound(inner, w)
+}
+
+// Whether one of the binders is the variable.
+fn is_bound(inner: &Scope, w: &Variable) -> bool
+    ensures { result ≡ binds (binders inner.now) w.now }
+{
+    match inner {
+        Scope::Outside => false,
+        Scope::Inside(l, outer) => are_same(l, w) || is_bound(outer, w),
+    }
+}
+
+// Whether the two are the same: as `Variable::same`, but most that differ are told apart by the places of their names.
+#[tactic(auto, using(crate::proofs::Alike::told_apart))]
+fn are_same(v: &Variable, w: &Variable) -> bool
+    ensures { result ≡ variable_eq v.now w.now }
+{
+    v.filter().same(w.filter()) && v.same(w)
+}
+
+// Whether it is another variable than the bound one, and differs from it in name by primes alone.
+fn is_alike(alike: &Alike<'_>, w: &Variable) -> bool
+    requires { alike.now.base.now ≡ base_of alike.now.v.now.0 }
+    ensures { result ≡ is_alike alike.now.v.now w.now }
+{
+    base_name(w.name().as_str()) == alike.base && !w.same(alike.v)
+}
+
+// What stands for each of the variables, as terms.
+fn images(
+    alloc: Global,
+    pairs: &[(Ty, Name)],
+    old: &Scope,
+    new: &Scope,
+    variables: &[Variable],
+) -> Result<Vec<Term>, AllocError>
+    ensures { IfOk result (λ ts. ts.items ≡ images_of pairs.now (binders old.now) (binders new.now) variables.now) }
+{
+    let mut images = Vec::new(alloc);
+    for w in variables {
+        push_image(alloc, &mut images, pairs, old, new, w)?;
     }
     Ok(images)
 }
@@ -228,7 +329,7 @@ fn standing<'a>(old: &Scope, new: &Scope<'a>, v: &Variable) -> Option<&'a Variab
         (Scope::Outside, _) => None,
         (Scope::Inside(_, _), Scope::Outside) => None,
         (Scope::Inside(l, old), Scope::Inside(r, new)) => {
-            if l.same(v) {
+            if are_same(l, v) {
                 Some(*r)
             } else {
                 standing(old, new, v)

@@ -66,14 +66,8 @@ base_with_primes (suc k) a = base_prime (with_primes k a) ∙ base_with_primes k
 abbrev pub IsTried : (List ℕ → Type 0) → List ℕ → List ℕ → Type 0
 IsTried IsTaken a c = (k : ℕ) × (c ≡ with_primes k a) × ((j : ℕ) → j < k → IsTaken (with_primes j a))
 
-pub tried_first : (IsTaken : List ℕ → Type 0) (a c : List ℕ) → c ≡ a → IsTried IsTaken a c
-tried_first IsTaken a c e = (0, e, λ j l. absurd (omega arith))
-
 pub tried_more : (IsTaken : List ℕ → Type 0) (a c d : List ℕ) → IsTried IsTaken a c → IsTaken c → d ≡ c ++ 39 ∷ [] → IsTried IsTaken a d
 tried_more IsTaken a c d h o e = (h.0 + 1, rw add-one (e ∙ ap (λ x. x ++ 39 ∷ []) h.1), λ j l. below_more (λ i. IsTaken (with_primes i a)) h.0 h.2 (subst IsTaken h.1 o) j l)
-
-pub tried_done : (IsTaken : List ℕ → Type 0) (a c : List ℕ) → IsTried IsTaken a c → (IsTaken c → ⊥) → HasFewestPrimes IsTaken a c
-tried_done IsTaken a c h o = record { primes = h.0; is = h.1; fresh = o; least = h.2 }
 
 -- no name that is taken is longer than m
 pub primed_nearer : (m : ℕ) (a b : List ℕ) → length a ≤ m → b ≡ a ++ 39 ∷ [] → m + 1 - length b < m + 1 - length a

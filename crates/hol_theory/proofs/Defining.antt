@@ -234,10 +234,6 @@ type_with es ths name abs rep p basis parts (Some q) is apart each all =
       )
     ])
 
--- the basis of the first of some entries, which is that of a type constructor, is legal
-first_legal : (x : Item) (basis : Items) (made : List ℕ × ℕ) (rest : Entries) → EachIsEntry (type_entry x basis made ∷ rest) → IsLegalSet basis
-first_legal x basis made rest each = each.0.legal
-
 parts_of : (t : Nameless) (s : TypeTree) → nameless_type [] t ≡ Some (fun_type s bool_type) → option_and_then fun_parts (nameless_type [] t) ≡ Some (s, bool_type)
 parts_of t s e = ap (option_and_then fun_parts) e
 

@@ -20,7 +20,6 @@ use Rattle.hol_theory.specs.Adding.{AreNew, CanFollow, stands_otherwise, first_c
 use Rattle.hol_theory.specs.SameValue.{same_value, same_values_are}
 use Rattle.hol_theory.proofs.Keys.{key_is}
 use Rattle.hol_theory.proofs.Entries.{found, new_of}
-use Rattle.hol_theory.proofs.Theories.{theory_followed}
 use Rattle.hol_theory.proofs.Items.{with_old, with_own, with_cases, after_own, after_cases}
 
 -- ---- where no key clashes
@@ -159,10 +158,6 @@ missing_follows es theory t none =
       rests = rests_missing es [] (items_of es) theory agree (λ x h. h) (λ x h. absurd (not_in_empty total only x h)) t.rests;
       named = named_missing es theory agree t.named;
     }
-
--- and makes a theory with what stands
-pub theory_imported : (es theory : Entries) → IsTheory es → IsTheory theory → IsDistinct key_eq (keys_of theory) → first_clash es theory ≡ None → IsTheory (es ++ missing es theory)
-theory_imported es theory t u d none = theory_followed es (missing es theory) t (missing_new es theory d) (missing_follows es theory u none)
 
 -- ---- a theory without entries
 

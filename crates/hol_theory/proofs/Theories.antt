@@ -101,14 +101,6 @@ items_agree es a b t in_a in_b x y k x_in y_in has_x has_y =
 
 -- ---- an entry alone
 
--- one without an own item
-pub one_follows : (es : Entries) (key : KeyValue) (value : EntryValue) → IsEntry key value → own_item key value ≡ None → IsSubset (entry_basis value) (items_in es) → CanFollow es ((key, value) ∷ [])
-one_follows es key value entry own rests = record {
-  each = (entry, tt);
-  rests = (subst (λ (o : Option Item). IsSubset (entry_basis value) (item_set (with_item (items_of es) o))) (sym own) rests, tt);
-  named = λ x h. absurd (not_in_empty total only x (subst (λ (o : Option Item). Holds (item_set (with_item [] o)) x) own h));
-}
-
 -- one whose own item has no other name than the entry's
 pub one_follows_with : (es : Entries) (key : KeyValue) (value : EntryValue) (x : Item) → IsEntry key value → own_item key value ≡ Some x → IsSubset (entry_basis value) (set.insert (items_in es) x) →
     ((k : ItemKey) → has_key x k ≡ true → entry_key k ≡ key) → CanFollow es ((key, value) ∷ [])

@@ -1,5 +1,5 @@
--- Whether what stands under a key is the same: arities, types, items with the base names of their terms, theorems with their bases, expressions with what their
--- theorems rest on.
+-- Whether what stands under a key is the same: arities, types, items with the base names of their terms, theorems with their bases, expressions with their
+-- bases and with what each of their theorems rests on.
 use Rattle.std.specs.Prelude.{◌≡◌, ◌↔◌, Bool, IsTrue}
 use Rattle.std.specs.Ordering.{eq_by_cmp, is_eq}
 use Rattle.std.specs.Cmp.{Equal-is, tied_itself}

@@ -8,7 +8,8 @@ use hol_kernel::{Basis, Item, Thm};
 use hol_terms::Term;
 
 impl Value {
-    /// Whether both are the same: arities, types, items with the base names of their terms, theorems with their bases, expressions with what their theorems rest on.
+    /// Whether both are the same: arities, types, items with the base names of their terms, theorems with their bases, expressions with their bases and with what
+    /// each of their theorems rests on.
     pub fn same(&self, other: &Value) -> bool
         ensures { IsTrue result ↔ (self.now ≡ other.now) }
     {

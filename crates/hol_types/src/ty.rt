@@ -371,8 +371,7 @@ impl Ty {
 
     /// Whether some pairs give the target: what [`Ty::match_to`] finds, without its pairs.
     ///
-    /// Takes memory for the variables alone. Parts without variables are compared as `same` does. The others are walked at each place
-    /// where they stand.
+    /// Parts without variables are compared as `same` does. The others are walked at each place where they stand.
     #[tactic(auto, using(crate::proofs::Steps::match_test))]
     pub fn matches(&self, alloc: Global, target: &Ty) -> Result<bool, AllocError>
         ensures { IfOk result (λ matched. matched ≡ is_some (match_type self.now [] target.now)) }

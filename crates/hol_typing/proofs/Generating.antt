@@ -1,5 +1,5 @@
 -- The equations of each kind of term say what its typings are.
-use Rattle.std.proofs.Common.{◌≡◌, ℕ, zero, suc, ◌<◌, List, [], ◌∷◌, map, refl, sym, ◌∙◌, ap, subst, arith, Option, Some, None, slice_get}
+use Rattle.std.proofs.Common.{◌≡◌, ℕ, zero, suc, ◌<◌, List, [], ◌∷◌, map, refl, sym, ◌∙◌, ap, subst, arith, Option, Some, None, Result, Ok, IfOk, slice_get}
 use Rattle.std.specs.List.{All}
 use Rattle.hol_types.specs.Tree.{TypeTree}
 use Rattle.hol_types.specs.Fun.{fun_type}
@@ -13,6 +13,10 @@ use Rattle.hol_typing.specs.declared.generate.Graph.{Graph}
 use Rattle.hol_typing.specs.Generate.{Solves, slots, IsWellFormed, Agree, IsFresh, IsFunction, IsEquated, BuildsType, Instantiates, FindsName, BuildsVariable, Generates}
 use Rattle.hol_typing.proofs.Growing.{map_agree}
 use Rattle.hol_typing.proofs.Extending.{agree_refl, agree_trans, term_agree, are_slots_in_more, typing_at, extend_fresh, extend_function, app_same, fun_same}
+
+-- what holds of an answer, of what was answered
+pub told : {S E : Type 0} (P : S → Type 0) (answer : Result S E) (x : S) → answer ≡ Ok x → IfOk answer P → P x
+told P answer x e h = subst (λ z. IfOk z P) e h
 
 lam_same : (x y : List ℕ) (a a' : TypeTree) (b b' : Nameless) → y ≡ x → a ≡ a' → b ≡ b' → lam y a b ≡ lam x a' b'
 lam_same x y a a' b b' p q r = cc

@@ -6,9 +6,9 @@ use Rattle.std.proofs.lemmas.Bool.{cases_eq}
 use Rattle.std.proofs.lemmas.List.{get_or_default}
 use Rattle.hol_types.specs.Tree.{TypeTree}
 use Rattle.hol_typing.specs.declared.cell.Cell.{Cell}
-use Rattle.hol_typing.specs.declared.cell.Cell.TheVariants.{Unknown, Link, Rigid, App, Generic, Part}
+use Rattle.hol_typing.specs.declared.cell.Cell.TheVariants.{Unknown, Link}
 use Rattle.hol_typing.specs.declared.cell.Equation.{Equation}
-use Rattle.hol_typing.specs.Graph.{CellHolds, cell_at, Respects, EquationHolds, SameSolutions, HasNoSolution, IsCellIn, IsGraph, AreBelow, AreIn, IsRootCell, cell_weight, work_left, IsJoined, HaveNoType, generic_weight, generics, AreJoinable}
+use Rattle.hol_typing.specs.Graph.{CellHolds, cell_at, Respects, EquationHolds, SameSolutions, HasNoSolution, IsCellIn, IsGraph, AreBelow, AreIn, cell_weight, work_left, IsJoined, HaveNoType, generic_weight, generics, AreJoinable}
 
 -- a slot's cell after a write
 pub written : (cells : List Cell) (at : ℕ) (cell : Cell) → at < length cells → cell_at (set cells at cell) at ≡ cell
@@ -41,15 +41,6 @@ respects_unset cells at cell types r holds = record {
 -- a type that meets a cell may be replaced by an equal one
 pub cell_holds_same : (types : ℕ → TypeTree) (s t : TypeTree) (cell : Cell) → s ≡ t → CellHolds types s cell → CellHolds types t cell
 cell_holds_same types s t cell e h = subst (λ (u : TypeTree). CellHolds types u cell) e h
-
--- a root's cell may stand at any slot
-root_anywhere : (n i j : ℕ) (cell : Cell) → IsRootCell cell → IsCellIn n i cell → IsCellIn n j cell
-root_anywhere n i j Unknown r h = tt
-root_anywhere n i j (Link k) r h = absurd r
-root_anywhere n i j (Rigid a) r h = h
-root_anywhere n i j (App c parts) r h = h
-root_anywhere n i j (Generic ty) r h = h
-root_anywhere n i j (Part part) r h = h
 
 pub is_graph_set : (cells : List Cell) (at : ℕ) (cell : Cell) → at < length cells → IsGraph cells → IsCellIn (length cells) at cell → IsGraph (set cells at cell)
 is_graph_set cells at cell h g new = record {

@@ -82,14 +82,6 @@ row_fits numbering slot lt = let e = row_step numbering.slots slot numbering.row
 pub instance_fits : (numbering : Numbering) (slot n : ℕ) → slot < numbering.slots → n ≤ numbering.row → base_at numbering slot + n ≤ limit_of numbering
 instance_fits numbering slot n lt le = let e = row_step numbering.slots slot numbering.row lt in omega (arith, e, le)
 
-pub counted_more : (n m : ℕ) (cell : Cell) → n ≤ m → IsCounted n cell → IsCounted m cell
-counted_more n m Unknown le h = tt
-counted_more n m (Link j) le h = tt
-counted_more n m (Rigid a) le h = tt
-counted_more n m (App c parts) le h = tt
-counted_more n m (Generic ty) le h = omega (arith, le, h)
-counted_more n m (Part part) le h = omega (arith, le, h)
-
 -- ---- the shape of an instance
 
 mutual

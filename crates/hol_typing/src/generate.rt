@@ -289,17 +289,19 @@ impl Graph {
         scope: &Scope<'_>,
         term: &RawTerm,
         expected: usize,
-    ) -> Result<Skeleton, AllocError>
+    ) -> Result<Box<Skeleton>, AllocError>
         requires well_formed { IsWellFormed self.old }
         requires bound_in { All (λ s. s < slots self.old) (scope_slots scope.now) }
         requires closed { IsClosedAt (length (scope_slots scope.now)) (raw_tree term.now) }
         requires expected_in { expected < slots self.old }
-        ensures { IfOk result (λ skeleton. Generates self.old self.new (scope_slots scope.now) (raw_tree term.now) expected (slot_tree skeleton)) }
+        ensures { IfOk result (λ skeleton. Generates self.old self.new (scope_slots scope.now) (raw_tree term.now) expected (slot_tree skeleton.value)) }
     {
         match term {
-            RawTerm::Bound(index) => self.bound(&*scope, *index, expected),
-            RawTerm::Constant(name, generic) => self.constant(name, generic, expected),
-            RawTerm::Free(name) => self.free(name, expected),
+            RawTerm::Bound(index) => Skeleton::boxed(alloc, self.bound(&*scope, *index, expected)),
+            RawTerm::Constant(name, generic) => {
+                Skeleton::boxed(alloc, self.constant(name, generic, expected))
+            }
+            RawTerm::Free(name) => Skeleton::boxed(alloc, self.free(name, expected)),
             RawTerm::Apply(function, argument) => {
                 let (function_slot, domain) = self.open_application(alloc, expected)?;
                 let left = self.generate(alloc, &*scope, function, function_slot)?;

@@ -36,7 +36,7 @@ fn equations(alloc: Global, term: &RawTerm) -> Result<(Graph, Skeleton), AllocEr
     let expected = graph.fresh(Cell::Unknown)?;
     let outermost = Scope::Outermost;
     let skeleton = graph.generate(alloc, &outermost, term, expected)?;
-    Ok((graph, skeleton))
+    Ok((graph, Box::into_inner(skeleton)))
 }
 
 // The shapes of the slots of a graph, once its equations are solved.

@@ -1,5 +1,5 @@
 //! Terms with slots in place of types.
-ghost use Rattle.std.specs.Prelude.{◌≡◌, ◌<◌, length, slice_get, Some, IfOk};
+ghost use Rattle.std.specs.Prelude.{◌≡◌, ◌<◌, length, slice_get, Some, Ok, IfOk};
 ghost use Rattle.hol_typing.specs.SlotTree.{SlotApply, SlotAbstraction};
 ghost use Rattle.hol_typing.specs.RawView.{scope_slots, slot_tree};
 
@@ -26,12 +26,12 @@ impl Skeleton {
     #[inline(never)]
     pub(crate) fn apply(
         alloc: Global,
-        function: Skeleton,
-        argument: Skeleton,
-    ) -> Result<Skeleton, AllocError>
-        ensures { IfOk result (λ t. slot_tree t ≡ SlotApply (slot_tree function) (slot_tree argument)) }
+        function: Box<Skeleton>,
+        argument: Box<Skeleton>,
+    ) -> Result<Box<Skeleton>, AllocError>
+        ensures { IfOk result (λ t. slot_tree t.value ≡ SlotApply (slot_tree function.value) (slot_tree argument.value)) }
     {
-        Ok(Skeleton::Apply(Box::new(alloc, function)?, Box::new(alloc, argument)?))
+        Ok(Box::new(alloc, Skeleton::Apply(function, argument))?)
     }
 
     /// The abstraction over a variable of this name and slot.
@@ -40,11 +40,22 @@ impl Skeleton {
         alloc: Global,
         name: &Name,
         slot: usize,
-        body: Skeleton,
-    ) -> Result<Skeleton, AllocError>
-        ensures { IfOk result (λ t. slot_tree t ≡ SlotAbstraction name.now slot (slot_tree body)) }
+        body: Box<Skeleton>,
+    ) -> Result<Box<Skeleton>, AllocError>
+        ensures { IfOk result (λ t. slot_tree t.value ≡ SlotAbstraction name.now slot (slot_tree body.value)) }
     {
-        Ok(Skeleton::Abstraction(name.copy()?, slot, Box::new(alloc, body)?))
+        Ok(Box::new(alloc, Skeleton::Abstraction(name.copy()?, slot, body))?)
+    }
+
+    /// The skeleton in a box: so a call that answers it takes less of the stack.
+    #[inline(never)]
+    pub(crate) fn boxed(
+        alloc: Global,
+        skeleton: Result<Skeleton, AllocError>,
+    ) -> Result<Box<Skeleton>, AllocError>
+        ensures { IfOk result (λ b. skeleton ≡ Ok b.value) }
+    {
+        Ok(Box::new(alloc, skeleton?)?)
     }
 }
 

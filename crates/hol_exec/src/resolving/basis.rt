@@ -4,9 +4,8 @@ ghost use Rattle.hol_terms.specs.Nameless.{nameless};
 ghost use Rattle.hol_kernel.specs.Items.{no_items};
 ghost use Rattle.hol_resolve.specs.ReadingView.{quoted_value, list_value};
 ghost use Rattle.hol_resolve.specs.Readings.{ATerm, AType};
-ghost use Rattle.hol_exec.specs.ReadsValue.{Values};
 ghost use Rattle.hol_exec.specs.Resolved.{with_value, resolved_basis};
-ghost use Rattle.hol_exec.specs.Valid.{AreOfTheory};
+ghost use Rattle.hol_exec.specs.Valid.{AreInTheory};
 
 use crate::reads::Reads;
 use crate::resolving::occurring::occurs_in;
@@ -75,7 +74,7 @@ pub(crate) fn basis_of(
     cited: &[(Key, Option<Value>)],
     readings: &[(usize, Quoted)],
 ) -> Result<Basis, AllocError>
-    requires { (made : Values) × AreOfTheory cited.now made }
+    requires { AreInTheory cited.now }
     ensures { IfOk result (λ basis. basis ≡ resolved_basis cited.now (list_value readings.now)) }
 {
     match cited {

@@ -1,22 +1,21 @@
 //! What each theorem that is written in an expression rests on by itself.
-ghost use Rattle.std.specs.Prelude.{◌≡◌, ◌++◌, IfOk, OnOk, map, nat_eq};
+ghost use Rattle.std.specs.Prelude.{◌≡◌, ◌++◌, IfOk, OnOk, map, nat_eq, option_copied};
 ghost use Rattle.std.specs.List.{list_any};
 ghost use Rattle.hol_notation_tactics.specs.Parts.{parts_of, calls_in};
 ghost use Rattle.hol_resolve.specs.Quotations.{place_of};
 ghost use Rattle.hol_resolve.specs.FormsView.{written_value};
 ghost use Rattle.hol_resolve.specs.ReadingView.{list_value, readings_value};
-ghost use Rattle.hol_theory.specs.Key.{key_eq};
-ghost use Rattle.hol_exec.specs.Callee.{called};
+ghost use Rattle.hol_exec.specs.Callee.{value_at, called};
 ghost use Rattle.hol_exec.specs.OwnBases.{values_under, readings_of, own_basis, argument_bases, call_bases, own_bases};
 ghost use Rattle.hol_exec.specs.SetupView.{setup_value};
 
-use crate::reads::{Reads, add_parts, entry_copy};
+use crate::reads::{Reads, add_parts};
 use crate::resolving::basis::basis_of;
 use crate::resolving::callee::{Callee, called};
 use crate::running::Setup;
 use hol_kernel::Basis;
-use hol_notation_tactics::{Role, TacCall, TacExpr, ThmExpr, calls_in, parts_of};
-use hol_resolve::{AnyQuotation, Quoted, Readings, WrittenArgs, parts_of_theorem, quotations_in};
+use hol_notation_tactics::{Role, TacCall, TacExpr, ThmExpr, calls_in, parts_of, parts_of_theorem};
+use hol_resolve::{AnyQuotation, Quoted, Readings, WrittenArgs, quotations_in};
 use hol_theory::{Key, Value};
 use std::alloc::{AllocError, Global};
 
@@ -120,7 +119,7 @@ fn own_basis(
     basis_of(alloc, &values, &own)
 }
 
-// What stands under those of the keys that are cited.
+// These keys, each with what stands under it where it is cited.
 fn values_under(
     alloc: Global,
     cited: &[(Key, Option<Value>)],
@@ -128,25 +127,37 @@ fn values_under(
 ) -> Result<Vec<(Key, Option<Value>)>, AllocError>
     ensures { IfOk result (λ values. values.items ≡ values_under cited.now keys.now) }
 {
-    let mut values = Vec::new(alloc);
-    for value in cited {
-        if is_among(&value.0, keys) {
-            values.push((value.0.copy()?, entry_copy(&value.1)?))?;
-        }
+    let mut values = Vec::with_capacity(alloc, keys.len())?;
+    for key in keys {
+        values.push(value_under(cited, key)?)?;
     }
     Ok(values)
 }
 
-// Whether it is one of the keys.
-fn is_among(key: &Key, keys: &[Key]) -> bool
-    ensures { result ≡ list_any (key_eq key.now) keys.now }
+// The key with what stands under it where it is cited.
+fn value_under(
+    cited: &[(Key, Option<Value>)],
+    key: &Key,
+) -> Result<(Key, Option<Value>), AllocError>
+    ensures { IfOk result (λ value. value ≡ (key.now, value_at key.now cited.now)) }
 {
-    for own in keys {
-        if *key == *own {
-            return true;
+    let value = match value_at(cited, key) {
+        Some(value) => Some(value.copy()?),
+        None => None,
+    };
+    Ok((key.copy()?, value))
+}
+
+// What stands under the key where it is cited.
+fn value_at<'a>(cited: &'a [(Key, Option<Value>)], key: &Key) -> Option<&'a Value>
+    ensures { option_copied result ≡ value_at key.now cited.now }
+{
+    for value in cited {
+        if *key == value.0 {
+            return value.1.as_ref();
         }
     }
-    false
+    None
 }
 
 // What these quotations read as.

@@ -158,8 +158,8 @@ impl Outcome {
         }
     }
 
-    /// What it makes are entries: theorems without hypotheses that have derivations over their bases, which are legal, and types and constants that items of their
-    /// bases make.
+    /// What it makes are entries: theorems without hypotheses that have derivations over their bases, which are legal; types and constants that items of their
+    /// bases make; and named expressions with legal bases that suit them.
     #[tactic(auto, using(crate::proofs::Outcomes::makes_theorems))]
     pub fn promise(&self)
         ensures { MakesTheorems self.now }

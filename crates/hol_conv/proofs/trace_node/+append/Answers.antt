@@ -1,4 +1,4 @@
-use Rattle.std.proofs.Common.{rules, ◌≡◌, ◌++◌, ap, sym, refl, subst}
+use Rattle.std.proofs.Common.{rules, ◌≡◌, ◌++◌, ◌∙◌, ap, sym, refl, subst}
 use Rattle.hol_terms.proofs.Same.{variable_eq_decides}
 use Rattle.hol_conv.specs.Traces.{in_parts, in_body, traced, used}
 use Rattle.hol_conv.specs.Tracing.{IsThen, IsAfter}
@@ -8,17 +8,17 @@ use Rattle.hol_conv.proofs.trace_node.+append.Goals as goal
 pub append-returns-in-Parts : goal.append-returns-in-Parts
 append-returns-in-Parts t c =
     on_ok c.append_parts.result _ _
-    (λ h. second_is (traced c.args.first.now) (traced c.args.second) (in_parts (traced c.in-Parts.g.value) (traced c.in-Parts.y.value)) (used c.args.first.now) (used c.in-Parts.g.value ++ used c.in-Parts.y.value) (used c.args.second) c.append_parts.new.first (λ s. ap (λ z. traced z s) c.in-Parts.is) (ap used c.in-Parts.is) h)
+    (λ h. second_is (traced c.args.first.now) (traced c.args.second.value) (in_parts (traced c.in-Parts.g.value) (traced c.in-Parts.y.value)) (used c.args.first.now) (used c.in-Parts.g.value ++ used c.in-Parts.y.value) (used c.args.second.value) c.append_parts.new.first (λ s. ap (λ z. traced z s) (sym c.into_inner.ensures ∙ c.in-Parts.is)) (ap used (sym c.into_inner.ensures ∙ c.in-Parts.is)) h)
     c.append_parts.ensures
 
 pub append-returns-in-Body : goal.append-returns-in-Body
 append-returns-in-Body t c =
     on_ok c.append_body.result _ _
-    (λ h. second_is (traced c.args.first.now) (traced c.args.second) (in_body c.in-Body.w (used c.in-Body.c.value) (traced c.in-Body.c.value)) (used c.args.first.now) (used c.in-Body.c.value) (used c.args.second) c.append_body.new.first (λ s. ap (λ z. traced z s) c.in-Body.is) (ap used c.in-Body.is) h)
+    (λ h. second_is (traced c.args.first.now) (traced c.args.second.value) (in_body c.in-Body.w (used c.in-Body.c.value) (traced c.in-Body.c.value)) (used c.args.first.now) (used c.in-Body.c.value) (used c.args.second.value) c.append_body.new.first (λ s. ap (λ z. traced z s) (sym c.into_inner.ensures ∙ c.in-Body.is)) (ap used (sym c.into_inner.ensures ∙ c.in-Body.is)) h)
     c.append_body.ensures
 
 pub append-returns-in-Same : goal.append-returns-in-Same
-append-returns-in-Same t c = then_none c.args.first.now c.args.second c.in-Same.is
+append-returns-in-Same t c = then_none c.args.first.now c.args.second.value (sym c.into_inner.ensures ∙ c.in-Same.is)
 
 pub append_body-returns-then-same : goal.append_body-returns-then-same
 append_body-returns-then-same t c =
@@ -26,7 +26,7 @@ append_body-returns-then-same t c =
     (λ h.
     in_body_appended c.in-Body.v c.args.w c.in-Body.b.value c.args.c.value c.append.new.first c.args.first.now _ ((variable_eq_decides c.in-Body.v c.args.w).0 (sym c.if-same.ensures))
     (record { gives = λ s. ap (λ z. traced z s) c.in-Body.is; given = ap used c.in-Body.is }) (record { gives = λ s. refl; given = refl })
-    (subst (λ z. IsAfter z c.args.c.value c.append.new.first) c.deref_mut.ensures.value (subst (λ z. IsAfter c.deref_mut.result.now z c.append.new.first) c.into_inner.ensures h)))
+    (subst (λ z. IsAfter z c.args.c.value c.append.new.first) c.deref_mut.ensures.value h))
     c.append.ensures
 
 pub append_body-returns-then-count : goal.append_body-returns-then-count
@@ -46,8 +46,8 @@ append_parts-returns-in-Parts t c =
     (λ h.
     in_parts_appended c.in-Parts.f.value c.in-Parts.x.value c.args.g.value c.args.y.value c.append.new.first c.append-in-Parts.new.first c.args.first.now _
     (record { gives = λ s. ap (λ z. traced z s) c.in-Parts.is; given = ap used c.in-Parts.is }) (record { gives = λ s. refl; given = refl })
-    (subst (λ z. IsAfter z c.args.g.value c.append.new.first) c.deref_mut.ensures.value (subst (λ z. IsAfter c.deref_mut.result.now z c.append.new.first) c.into_inner.ensures c.in_ok-append-in-Parts.ensures))
-    (subst (λ z. IsAfter z c.args.y.value c.append-in-Parts.new.first) c.deref_mut-in-Parts.ensures.value (subst (λ z. IsAfter c.deref_mut-in-Parts.result.now z c.append-in-Parts.new.first) c.into_inner-in-Parts.ensures h)))
+    (subst (λ z. IsAfter z c.args.g.value c.append.new.first) c.deref_mut.ensures.value c.in_ok-append-in-Parts.ensures)
+    (subst (λ z. IsAfter z c.args.y.value c.append-in-Parts.new.first) c.deref_mut-in-Parts.ensures.value h))
     c.append-in-Parts.ensures
 
 pub append_parts-returns-then-count : goal.append_parts-returns-then-count

@@ -8,7 +8,8 @@ use Rattle.hol_terms.specs.Named.{comb}
 use Rattle.hol_terms.specs.Scope.{binders}
 use Rattle.hol_terms.specs.View.{named_of}
 use Rattle.hol_subst.specs.Renaming.{image, IsInstance}
-use Rattle.hol_subst.proofs.InstSteps.{variable_at, constant_at, application_at, fits_at, abstraction_at}
+use Rattle.hol_subst.specs.Substitution.{variable_inst}
+use Rattle.hol_subst.proofs.InstSteps.{variable_at, constant_at, application_at, fits_at, abstraction_at, variant_base}
 use Rattle.hol_subst.proofs.Kept.{kept_instance, renamed_inside}
 use Rattle.hol_subst.proofs.instances.+changed.Goals as goal
 
@@ -88,7 +89,10 @@ changed-requires-in-Abs t c = (
     search rules,
     (
       c.requires.names,
-      renamed_inside c.args.types.now.pairs.now (binders c.args.old.now) (binders c.args.new.now) c.args.renamed.bits c.with_binder-renamed.result.bits c.in-Abs.v c.in_ok-u-in-Abs.u c.with_binder-renamed.ensures c.requires.renamed,
+      (
+        (variant_base _ (variable_inst c.args.types.now.pairs.now c.in-Abs.v) c.in_ok-u-in-Abs.u c.in_ok-u-in-Abs.ensures, c.requires.bases),
+        renamed_inside c.args.types.now.pairs.now (binders c.args.old.now) (binders c.args.new.now) c.args.renamed.bits c.with_binder-renamed.result.bits c.in-Abs.v c.in_ok-u-in-Abs.u c.with_binder-renamed.ensures c.requires.renamed,
+      ),
     ),
   ),
 )

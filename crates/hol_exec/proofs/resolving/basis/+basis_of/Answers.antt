@@ -5,21 +5,21 @@ use Rattle.hol_kernel.specs.Items.{Items}
 use Rattle.hol_kernel.specs.Extends.{Agree}
 use Rattle.hol_resolve.specs.ReadingView.{list_value}
 use Rattle.hol_exec.specs.Resolved.{resolved_basis}
-use Rattle.hol_exec.proofs.CitedBases.{halves_joined, halves_agree, front_of_theory, back_of_theory, of_one, half_smaller, rest_smaller}
+use Rattle.hol_exec.proofs.CitedBases.{halves_joined, halves_agree, front_in_theory, back_in_theory, of_one, half_smaller, rest_smaller}
 use Rattle.hol_exec.proofs.resolving.basis.+basis_of.Goals as goal
 
 pub basis_of-requires : goal.basis_of-requires
 basis_of-requires n c =
     let smaller : length c.split_at.result.0.now < length c.args.cited.now = half_smaller (length c.args.cited.now) (length c.split_at.result.0.now) c.in_default.len_at_least c.split_at.ensures.front_len in (
       search rules,
-      (c.requires.0, front_of_theory c.args.cited.now c.requires.0 c.split_at.result.0.now c.split_at.result.1.now c.split_at.ensures.by_index.0 c.requires.1),
+      front_in_theory c.args.cited.now c.split_at.result.0.now c.split_at.result.1.now c.split_at.ensures.by_index.0 c.requires,
     )
 
 pub basis_of-requires-in_default : goal.basis_of-requires-in_default
 basis_of-requires-in_default n c =
     let smaller : length c.split_at.result.1.now < length c.args.cited.now = rest_smaller (length c.args.cited.now) (length c.split_at.result.1.now) c.in_default.len_at_least c.split_at.ensures.back_len in (
       search rules,
-      (c.requires.0, back_of_theory c.args.cited.now c.requires.0 c.split_at.result.0.now c.split_at.result.1.now c.split_at.ensures.by_index.0 c.requires.1),
+      back_in_theory c.args.cited.now c.split_at.result.0.now c.split_at.result.1.now c.split_at.ensures.by_index.0 c.requires,
     )
 
 pub joined-requires : goal.joined-requires
@@ -27,7 +27,7 @@ joined-requires n c =
     let readings = list_value c.args.readings.now in
     subst (λ (second : Items). Agree c.in_ok-first-in_default.first second) (sym c.in_ok-second-in_default.ensures)
     (subst (λ (first : Items). Agree first (resolved_basis c.split_at.result.1.now readings)) (sym c.in_ok-first-in_default.ensures)
-    (halves_agree c.args.cited.now c.requires.0 c.split_at.result.0.now c.split_at.result.1.now readings c.split_at.ensures.by_index.0 c.requires.1))
+    (halves_agree c.args.cited.now c.split_at.result.0.now c.split_at.result.1.now readings c.split_at.ensures.by_index.0 c.requires))
 
 pub returns-in-len1 : goal.returns-in-len1
 returns-in-len1 n c =

@@ -1,0 +1,7 @@
+use Rattle.std.proofs.Common.{◌≡◌, ◌++◌, drop}
+use Rattle.hol_terms.specs.Scope.{binders}
+use Rattle.hol_subst.specs.Renaming.{images_of}
+use Rattle.hol_subst.proofs.instances.images.Given as goal
+
+abbrev pub invariant-loop-w : goal.invariant-loop-w
+invariant-loop-w l = l.images.items ++ images_of l.pairs (binders l.old) (binders l.new) (drop l.w-index l.variables) ≡ images_of l.pairs (binders l.old) (binders l.new) l.variables
