@@ -79,6 +79,16 @@ def at_limits():
     yield Case("998 steps, and an end", ["g N `T`", *["e ALL_TAC"] * 997, "e ACCEPT_TAC TRUTH", "qed"], "made")
 
 
+def steps_on_large_goals():
+    """As many steps as a theory has on a goal as large as a text has: each step keeps what it changes of the goal, and no more."""
+    parts = r" /\ " + joined(r" /\ ", [r"(p \/ ~q)"] * 570)
+    constants = ["new_constant c `:bool`", "new_constant d `:bool`", "new_axiom A `c <=> d`", "new_axiom B `d <=> c`"]
+    replaced = ["e SUBST1_TAC A", "e SUBST1_TAC B"] * 497
+    yield Case("994 times a constant for another in a goal of 570 parts", [*constants, f"g N `c{parts}`", *replaced], "goals", seconds=2)
+    general = ["e SPEC_TAC (`r:bool`, `r:bool`)", "e GEN_TAC"] * 499
+    yield Case("499 times a variable of it generalized and freed", [f"g N `r{parts}`", *general], "goals", seconds=2)
+
+
 def many_citations():
     """As many theorems as a command can cite, in an expression that gets a name: on what each of them rests by itself is kept with it."""
     axioms = [f"new_axiom A{k} `T`" for k in range(300)]

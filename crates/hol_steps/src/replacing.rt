@@ -1,6 +1,6 @@
 //! Replacement of each occurrence of a term, as HOL Light's `subst` has it: by a template with a variable that the formula doesn't have.
 ghost use Rattle.std.specs.Prelude.{◌≡◌, ◌≤◌, IfOk, Some, [], length};
-ghost use Rattle.hol_terms.specs.Named.{comb, named_type};
+ghost use Rattle.hol_terms.specs.Named.{abs, comb, named_type};
 ghost use Rattle.hol_terms.specs.Nameless.{free, nameless};
 ghost use Rattle.hol_formulas.specs.Equation.{bool_type};
 ghost use Rattle.hol_just.specs.Replacing.{replace_each};
@@ -47,7 +47,7 @@ fn longer<'a>(first: &'a Name, second: &'a Name) -> &'a Name
     }
 }
 
-/// The term with the variable, which it doesn't have, for each occurrence of `s`.
+/// The term with the variable, which it doesn't have, for each occurrence of `s`. Parts without one are the term's own nodes.
 ///
 /// It visits each part of the term as often as it stands there, and compares those with `s` that are of its size.
 pub(crate) fn template(
@@ -77,19 +77,36 @@ pub(crate) fn template(
                 return term.copy();
             }
             let body = template(alloc, b, s, v)?;
-            Term::abstraction(alloc, u, &body)
+            abstracted(alloc, term, u, &body)
         }
     }
 }
 
-// The application, which has the type of the term.
+// The application, which has the type of the term: the term itself, where its parts are these very nodes.
 fn applied(alloc: Global, term: &Term, function: &Term, argument: &Term) -> Result<Term, AllocError>
     requires { named_type (comb function.now argument.now) ≡ named_type term.now }
     ensures { IfOk result (λ t. t ≡ comb function.now argument.now) }
 {
+    if let TermNode::Comb(f, x) = term.node() {
+        if f.same_node(function) && x.same_node(argument) {
+            return term.copy();
+        }
+    }
     // It has a type, so the application is known to fit.
     let _ty = term.type_of();
     Term::application(alloc, function, argument)
+}
+
+// The abstraction of the variable in the body: the term itself, where it is of this variable and this very node.
+fn abstracted(alloc: Global, term: &Term, v: &Variable, body: &Term) -> Result<Term, AllocError>
+    ensures { IfOk result (λ t. t ≡ abs v.now body.now) }
+{
+    if let TermNode::Abs(u, b) = term.node() {
+        if u.same(v) && b.same_node(body) {
+            return term.copy();
+        }
+    }
+    Term::abstraction(alloc, v, body)
 }
 
 /// The formula with `t` for each occurrence of `s`, by its template.

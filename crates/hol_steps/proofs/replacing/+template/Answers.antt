@@ -34,9 +34,9 @@ returns-in_ok-body-in-Abs-clause-is t c =
     let whole : c.args.term.now ≡ abs c.in-Abs.u c.in-Abs.b = sym c.node.ensures ∙ ap named_of c.in-Abs.is in
     let other = subst (λ (n : Named). HasNo c.args.v.now n) whole c.requires.other in
     let apart = ap (λ (n : Named). alpha_eq (nameless [] n) (nameless [] c.args.s.now)) (sym whole) ∙ sym c.if-alpha_equivalent.ensures.test in
-    IfOk-weaker c.abstraction.result (λ m. m ≡ abs c.in-Abs.u c.in_ok-body-in-Abs.body) (λ m. nameless [] m ≡ replace_each (nameless [] c.args.s.now) (free c.args.v.now) (nameless [] c.args.term.now))
+    IfOk-weaker c.abstracted.result (λ m. m ≡ abs c.in-Abs.u c.in_ok-body-in-Abs.body) (λ m. nameless [] m ≡ replace_each (nameless [] c.args.s.now) (free c.args.v.now) (nameless [] c.args.term.now))
     (λ m is.
     ap (nameless []) is
     ∙ subst (λ (n : Named). nameless [] (abs c.in-Abs.u c.in_ok-body-in-Abs.body) ≡ replace_each (nameless [] c.args.s.now) (free c.args.v.now) (nameless [] n)) (sym whole)
     (at_abstraction c.args.s.now c.args.v.now c.in-Abs.u c.in-Abs.b c.in_ok-body-in-Abs.body apart (sym c.if-vfree_in.ensures.free) other.0 c.in_ok-body-in-Abs.ensures.is))
-    c.abstraction.ensures
+    c.abstracted.ensures
