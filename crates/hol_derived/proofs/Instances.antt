@@ -35,6 +35,10 @@ use Rattle.hol_derived.proofs.Disjunctions.{one_removed}
 image_one : (f : Nameless → Nameless) (h : Nameless) → hyps_image f (only_hyp h) ≡ set.insert no_hyps (strip (f (strip h)))
 image_one f h = map_of_set hyps_total hyps_same (λ k. strip (f k)) (strip h ∷ [])
 
+-- and of none
+image_none : (f : Nameless → Nameless) → hyps_image f no_hyps ≡ no_hyps
+image_none f = map_of_set hyps_total hyps_same (λ k. strip (f k)) []
+
 -- ---- formulas for the variables p and q
 
 module _ (p q : Nameless) (c : IsClosed 0 p) (d : IsClosed 0 q) where
@@ -85,10 +89,29 @@ module _ (p q : Nameless) (c : IsClosed 0 p) (d : IsClosed 0 q) where
   concluded_is Exists = refl
   concluded_is Choose = refl
 
+  assuming : (which : Lemma) → put p q (sequent_of (only_hyp (hypothesis which (letter (codes "p")) (letter (codes "q")))) (conclusion which (letter (codes "p")) (letter (codes "q")))) ≡ sequent_of (only_hyp (hypothesis which p q)) (conclusion which p q)
+  unfolding given
+  assuming which =
+      λ i. sequent_of ((image_one given (hypothesis which (letter (codes "p")) (letter (codes "q"))) ∙ ap (λ k. set.insert no_hyps k) (assumed_is which)) i) (concluded_is which i)
+
   pub instance_is : (which : Lemma) → put p q (general which) ≡ lemma_at which p q
   unfolding given
-  instance_is which =
-      λ i. sequent_of ((image_one given (hypothesis which (letter (codes "p")) (letter (codes "q"))) ∙ ap (λ k. set.insert no_hyps k) (assumed_is which)) i) (concluded_is which i)
+  instance_is EqtIntro = λ i. sequent_of (image_none given i) (equivalence (first i) (equivalence (first i) truth))
+  instance_is Conj = assuming Conj
+  instance_is Conjunct1 = assuming Conjunct1
+  instance_is Conjunct2 = assuming Conjunct2
+  instance_is Mp = assuming Mp
+  instance_is Disch = λ i. sequent_of (image_none given i) (equivalence (equivalence (conjunction (first i) (second i)) (first i)) (implication (first i) (second i)))
+  instance_is Disj1 = assuming Disj1
+  instance_is Disj2 = assuming Disj2
+  instance_is Contr = assuming Contr
+  instance_is NotIntro = λ i. sequent_of (image_none given i) (equivalence (implication (first i) falsity) (negation (first i)))
+  instance_is EqfIntro = assuming EqfIntro
+  instance_is Gen = λ i. sequent_of (image_none given i) (general Gen).concl
+  instance_is DisjCases = assuming DisjCases
+  instance_is Spec = assuming Spec
+  instance_is Exists = assuming Exists
+  instance_is Choose = assuming Choose
 
 -- the instance applies
 pub formulas_fit : (basis : Items) (p q : Named) (s : Sequent) → HasType basis (nameless [] p) bool_type → HasType basis (nameless [] q) bool_type → inst_of basis ((p, var (boolean (codes "p"))) ∷ (q, var (boolean (codes "q"))) ∷ []) s ≡ Some (put (nameless [] p) (nameless [] q) s)
@@ -131,12 +154,13 @@ module _ (a : TypeTree) (f : Nameless) (c : IsClosed 0 f) where
       ∙ (λ i. sequent_of (only_hyp (exists_in a (found i))) (universal (implied_by_all a f)))
 
   pub generalization_is :
-      put_predicate a f (general Gen) ≡ sequent_of (only_hyp (equation (fun_type a bool_type) f (constantly_true a))) (app (fixed (codes "!") (quantifier_type a)) f)
+      put_predicate a f (general Gen) ≡ sequent_of no_hyps (equivalence (equation (fun_type a bool_type) f (constantly_true a)) (app (fixed (codes "!") (quantifier_type a)) f))
   unfolding at at_type
   generalization_is =
-      (λ i. sequent_of (hyps_image at (image_one (types_inst ((a, codes "A") ∷ [])) (equation (fun_type var_a bool_type) predicate (constantly_true var_a)) i)) (app (fixed (codes "!") (quantifier_type a)) (found i)))
-      ∙ (λ i. sequent_of ((image_one at (equation (fun_type a bool_type) at_type (constantly_true a))) i) (app (fixed (codes "!") (quantifier_type a)) f))
-      ∙ (λ i. sequent_of (only_hyp (equation (fun_type a bool_type) (found i) (constantly_true a))) (app (fixed (codes "!") (quantifier_type a)) f))
+      (λ i.
+      sequent_of (hyps_image at (image_none (types_inst ((a, codes "A") ∷ [])) i))
+      (equivalence (equation (fun_type a bool_type) (found i) (constantly_true a)) (app (fixed (codes "!") (quantifier_type a)) (found i))))
+      ∙ (λ i. sequent_of (image_none at i) (equivalence (equation (fun_type a bool_type) f (constantly_true a)) (app (fixed (codes "!") (quantifier_type a)) f)))
 
 -- ---- a predicate for P, and a term for x
 

@@ -1,6 +1,6 @@
 -- The general theorems of the rules, of formulas p and q, or of P:A->bool and x:A (bool.ml keeps each beside its rule, as pth): what each
 -- assumes, and what it concludes. Private clauses alone speak of them.
-use Rattle.std.specs.Prelude.{◌≡◌, List, [], ◌∷◌, codes}
+use Rattle.std.specs.Prelude.{◌≡◌, Bool, true, false, cond, List, [], ◌∷◌, codes}
 use Rattle.std.specs.List.{AllByRecursion}
 use Rattle.hol_types.specs.Tree.{TypeTree}
 use Rattle.hol_types.specs.Fun.{fun_type}
@@ -56,8 +56,29 @@ conclusion Spec p q = of_witness
 conclusion Exists p q = exists_in var_a predicate
 conclusion Choose p q = universal (implied_by_all var_a predicate)
 
+-- where the two are equivalent, the theorem assumes nothing and says that
+abbrev pub is_equation : Lemma → Bool
+is_equation EqtIntro = true
+is_equation Conj = false
+is_equation Conjunct1 = false
+is_equation Conjunct2 = false
+is_equation Mp = false
+is_equation Disch = true
+is_equation Disj1 = false
+is_equation Disj2 = false
+is_equation Contr = false
+is_equation NotIntro = true
+is_equation EqfIntro = false
+is_equation Gen = true
+is_equation DisjCases = false
+is_equation Spec = false
+is_equation Exists = false
+is_equation Choose = false
+
 abbrev pub lemma_at : Lemma → Nameless → Nameless → Sequent
-lemma_at which p q = sequent_of (only_hyp (hypothesis which p q)) (conclusion which p q)
+lemma_at which p q =
+    cond (is_equation which) (sequent_of no_hyps (equivalence (hypothesis which p q) (conclusion which p q)))
+    (sequent_of (only_hyp (hypothesis which p q)) (conclusion which p q))
 
 -- the general theorem itself, of the variables p and q of type bool
 abbrev pub general : Lemma → Sequent

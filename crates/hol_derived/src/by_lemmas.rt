@@ -17,7 +17,7 @@ ghost use Rattle.hol_derived.specs.Rules.{conj_of, conjunct1_of, conjunct2_of, m
 
 use crate::lemma::Lemma;
 use crate::lemmas::{Lemmas, with_predicate};
-use hol_equal::applied::{abs, assume, eq_mp, prove_hyp, sides_of};
+use hol_equal::applied::{abs, assume, eq_mp, sides_of};
 use hol_formulas::{dest_conj, dest_imp, dest_neg};
 use hol_kernel::Thm;
 use hol_terms::{Term, TermNode, Variable};
@@ -256,7 +256,7 @@ impl Lemmas {
         };
         let general = self.get(alloc, Lemma::Gen)?;
         let own = with_predicate(alloc, &general, v.ty(), sides.left)?;
-        prove_hyp(alloc, constant, &own)
+        eq_mp(alloc, &own, constant)
     }
 
     /// GEN: from `p`, `!v. p`, for a variable of a type over the basis that is free in no hypothesis.

@@ -6,20 +6,19 @@ ghost use Rattle.hol_terms.specs.Nameless.{app, fixed};
 ghost use Rattle.hol_types.specs.Fun.{fun_type};
 ghost use Rattle.hol_formulas.specs.Constants.{var_a};
 ghost use Rattle.hol_formulas.specs.Equation.{bool_type, equation};
-ghost use Rattle.hol_formulas.specs.Formula.{conjunction, implication, equivalence, quantifier_type};
+ghost use Rattle.hol_formulas.specs.Formula.{truth, conjunction, implication, equivalence, quantifier_type};
 ghost use Rattle.hol_formulas.specs.Making.{mk_conj, mk_imp};
 ghost use Rattle.hol_formulas.specs.Prelude.{boolean};
 ghost use Rattle.hol_kernel.specs.Sequent.{no_hyps, only_hyp, sequent_of};
 ghost use Rattle.hol_kernel.specs.Theorem.{theorem_on};
 ghost use Rattle.hol_equal.specs.Applied.{lhs, rhs};
 ghost use Rattle.hol_derived.specs.Applied.{imp_unfolded, discharged, constantly_true};
-ghost use Rattle.hol_derived.specs.Lemmas.{general};
+ghost use Rattle.hol_derived.specs.Lemmas.{is_equation, general};
 ghost use Rattle.hol_derived.specs.Unfolded.{letter, predicate};
 
 use crate::conjunction;
 use crate::definitions::{forall_at, unfold};
 use crate::disjunction::{Side, assumed_letter, from_side, or_at_letters};
-use crate::equations::eq_mp_sym;
 use crate::falsity::{self, from_falsity, not_at};
 use crate::implication::{self, first_of, imp_at, with_first};
 use crate::letters::letter;
@@ -34,7 +33,7 @@ use std::alloc::{AllocError, Global};
 /// A general theorem, by the name of its rule.
 #[derive(Clone, Copy, PartialEq, Eq)]
 pub(crate) enum Lemma {
-    /// `{p} |- p <=> T`.
+    /// `|- p <=> (p <=> T)`.
     EqtIntro,
     /// `{q} |- p <=> p /\ q`.
     Conj,
@@ -44,7 +43,7 @@ pub(crate) enum Lemma {
     Conjunct2,
     /// `{p} |- p ==> q <=> q`.
     Mp,
-    /// `{p /\ q <=> p} |- p ==> q`.
+    /// `|- (p /\ q <=> p) <=> (p ==> q)`.
     Disch,
     /// `{p} |- p \/ q`.
     Disj1,
@@ -52,11 +51,11 @@ pub(crate) enum Lemma {
     Disj2,
     /// `{F} |- p`.
     Contr,
-    /// `{p ==> F} |- ~p`.
+    /// `|- p ==> F <=> ~p`.
     NotIntro,
     /// `{~p} |- p <=> F`.
     EqfIntro,
-    /// `{P = (\x:A. T)} |- (!) P`.
+    /// `|- P = (\x:A. T) <=> (!) P`.
     Gen,
     /// `{p \/ q} |- !r. (p ==> r) ==> (q ==> r) ==> r`.
     DisjCases,
@@ -88,6 +87,21 @@ pub(crate) const LEMMAS: [Lemma; 16] = [
     Lemma::EqfIntro,
 ];
 
+impl Lemma {
+    /// Whether the theorem assumes nothing, and says that what the rule is of and what it concludes are equivalent.
+    pub(crate) fn is_equation(self) -> bool
+        ensures { result ≡ is_equation self }
+    {
+        match self {
+            Lemma::EqtIntro | Lemma::Disch | Lemma::NotIntro | Lemma::Gen => true,
+            Lemma::Conj | Lemma::Conjunct1 | Lemma::Conjunct2 => false,
+            Lemma::Mp | Lemma::Disj1 | Lemma::Disj2 | Lemma::DisjCases => false,
+            Lemma::Contr | Lemma::EqfIntro => false,
+            Lemma::Spec | Lemma::Exists | Lemma::Choose => false,
+        }
+    }
+}
+
 /// Derives a general theorem over the basis.
 pub(crate) fn derived(alloc: Global, basis: &Basis, which: Lemma) -> Result<Thm, AllocError>
     ensures { IfOk result (λ th. th ≡ theorem_on basis.now (general which)) }
@@ -113,11 +127,30 @@ pub(crate) fn derived(alloc: Global, basis: &Basis, which: Lemma) -> Result<Thm,
 }
 
 // `{p} |- p <=> T`.
-fn eqt_intro(alloc: Global, basis: &Basis) -> Result<Thm, AllocError>
-    ensures { IfOk result (λ th. th ≡ theorem_on basis.now (general Lemma.EqtIntro)) }
+fn letter_is_true(alloc: Global, basis: &Basis) -> Result<Thm, AllocError>
+    ensures { IfOk result (λ th. th ≡ theorem_on basis.now (sequent_of (only_hyp (letter (codes "p"))) (equivalence (letter (codes "p")) truth))) }
 {
     let p = letter(alloc, "p")?;
     true_if_assumed(alloc, basis, &p)
+}
+
+// `{p <=> T} |- p`, from `p <=> T`.
+fn from_truth(alloc: Global, equal: &Thm) -> Result<Thm, AllocError>
+    requires is { equal.now.sequent.concl ≡ equivalence (lhs equal.now.sequent.concl) truth }
+    ensures { IfOk result (λ th. th ≡ theorem_on equal.now.basis (sequent_of (only_hyp equal.now.sequent.concl) (lhs equal.now.sequent.concl))) }
+{
+    equal.well_typed();
+    let assumed = assume(alloc, equal.basis(), equal.concl())?;
+    eqt_elim(alloc, &assumed)
+}
+
+// `|- p <=> (p <=> T)`.
+fn eqt_intro(alloc: Global, basis: &Basis) -> Result<Thm, AllocError>
+    ensures { IfOk result (λ th. th ≡ theorem_on basis.now (general Lemma.EqtIntro)) }
+{
+    let holds = letter_is_true(alloc, basis)?;
+    let back = from_truth(alloc, &holds)?;
+    Thm::deduct_antisym(alloc, &back, &holds)
 }
 
 // `{q} |- p /\ q <=> p`.
@@ -217,25 +250,12 @@ fn imp_at_letters(alloc: Global, basis: &Basis) -> Result<Thm, AllocError>
     imp_at(alloc, basis, &p, &q)
 }
 
-// From `l <=> r`, `l` under the hypothesis `r`.
-fn assumed_right(alloc: Global, equal: &Thm) -> Result<Thm, AllocError>
-    requires is { equal.now.sequent ≡ sequent_of no_hyps (equivalence (lhs equal.now.sequent.concl) (rhs equal.now.sequent.concl)) }
-    ensures { IfOk result (λ th. th ≡ theorem_on equal.now.basis (sequent_of (only_hyp (rhs equal.now.sequent.concl)) (lhs equal.now.sequent.concl))) }
-{
-    equal.well_typed();
-    let Some(sides) = sides_of(equal) else {
-        unreachable!()
-    };
-    let assumed = assume(alloc, equal.basis(), sides.right)?;
-    eq_mp_sym(alloc, equal, &assumed)
-}
-
-// `{p /\ q <=> p} |- p ==> q`.
+// `|- (p /\ q <=> p) <=> (p ==> q)`.
 fn disch(alloc: Global, basis: &Basis) -> Result<Thm, AllocError>
     ensures { IfOk result (λ th. th ≡ theorem_on basis.now (general Lemma.Disch)) }
 {
     let equal = imp_at_letters(alloc, basis)?;
-    assumed_right(alloc, &equal)
+    sym(alloc, &equal)
 }
 
 // `{F} |- p`.
@@ -246,13 +266,13 @@ fn contr(alloc: Global, basis: &Basis) -> Result<Thm, AllocError>
     from_falsity(alloc, basis, &p)
 }
 
-// `{p ==> F} |- ~p`.
+// `|- p ==> F <=> ~p`.
 fn not_intro(alloc: Global, basis: &Basis) -> Result<Thm, AllocError>
     ensures { IfOk result (λ th. th ≡ theorem_on basis.now (general Lemma.NotIntro)) }
 {
     let p = letter(alloc, "p")?;
     let equal = not_at(alloc, basis, &p)?;
-    assumed_right(alloc, &equal)
+    sym(alloc, &equal)
 }
 
 // `{~p} |- p <=> F`.
@@ -265,14 +285,14 @@ fn eqf_intro(alloc: Global, basis: &Basis) -> Result<Thm, AllocError>
     falsity::eqf_intro(alloc, &assumed)
 }
 
-// `{P = (\x:A. T)} |- (!) P`.
+// `|- P = (\x:A. T) <=> (!) P`.
 fn generalization(alloc: Global, basis: &Basis) -> Result<Thm, AllocError>
     ensures { IfOk result (λ th. th ≡ theorem_on basis.now (general Lemma.Gen)) }
 {
     let ty = element_type(alloc)?;
     let p = property_term(alloc)?;
     let equal = forall_at(alloc, basis, &ty, &p)?;
-    assumed_right(alloc, &equal)
+    sym(alloc, &equal)
 }
 
 // From `l <=> r`, `r` under the hypothesis `l`.

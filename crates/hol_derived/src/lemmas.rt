@@ -2,6 +2,7 @@
 ghost use Rattle.std.specs.Prelude.{◌≡◌, ◌∷◌, [], true, IfOk, IfSome, codes, Ok};
 ghost use Rattle.hol_terms.specs.Named.{var};
 ghost use Rattle.hol_types.specs.Fun.{fun_type};
+ghost use Rattle.hol_terms.specs.Alpha.{strip};
 ghost use Rattle.hol_terms.specs.Nameless.{nameless};
 ghost use Rattle.hol_formulas.specs.Equation.{bool_type};
 ghost use Rattle.hol_formulas.specs.Formula.{truth};
@@ -9,7 +10,7 @@ ghost use Rattle.hol_formulas.specs.Prelude.{boolean};
 ghost use Rattle.hol_subst.specs.Substitution.{term_subst};
 ghost use Rattle.hol_kernel.specs.Items.{IsSubset, no_items};
 ghost use Rattle.hol_kernel.specs.Rules.{sequent_image};
-ghost use Rattle.hol_kernel.specs.Sequent.{no_hyps, only_hyp, sequent_of};
+ghost use Rattle.hol_kernel.specs.Sequent.{no_hyps, sequent_of};
 ghost use Rattle.hol_kernel.specs.Theorem.{theorem_on};
 ghost use Rattle.hol_kernel.specs.Typing.{HasType, is_type};
 ghost use Rattle.hol_derived.specs.Lemmas.{hypothesis, conclusion, lemma_at, general, put, put_predicate, put_at};
@@ -17,7 +18,7 @@ ghost use Rattle.hol_derived.specs.Lemmas.{hypothesis, conclusion, lemma_at, gen
 use crate::lemma::{LEMMAS, Lemma, derived};
 use crate::letters::letter;
 use crate::truth::truth;
-use hol_equal::applied::{inst_type, prove_hyp};
+use hol_equal::applied::{eq_mp, inst_type, prove_hyp};
 use hol_formulas::{bool_type, occurrence, variable};
 use hol_kernel::{Basis, Thm};
 use hol_terms::Term;
@@ -168,7 +169,7 @@ impl Lemmas {
         self.with_formulas(alloc, &own, p, q)
     }
 
-    /// What an instance of the general theorem concludes from the premise, which is what it assumes.
+    /// What an instance of the general theorem concludes from the premise, which is what it assumes, or is an equation of.
     pub(crate) fn follow(
         &mut self,
         alloc: Global,
@@ -180,11 +181,14 @@ impl Lemmas {
         requires over { self.old ≡ premise.now.basis }
         requires first { HasType self.old (nameless [] p.now) bool_type }
         requires second { HasType self.old (nameless [] q.now) bool_type }
-        requires proved { only_hyp (hypothesis which (nameless [] p.now) (nameless [] q.now)) ≡ only_hyp premise.now.sequent.concl }
+        requires proved { strip (hypothesis which (nameless [] p.now) (nameless [] q.now)) ≡ strip premise.now.sequent.concl }
         ensures is { IfOk result (λ th. th ≡ theorem_on self.old (sequent_of premise.now.sequent.hyps (conclusion which (nameless [] p.now) (nameless [] q.now)))) }
         ensures kept { self.new ≡ self.old }
     {
         let own = self.instance(alloc, which, p, q)?;
+        if which.is_equation() {
+            return eq_mp(alloc, &own, premise);
+        }
         prove_hyp(alloc, premise, &own)
     }
 }

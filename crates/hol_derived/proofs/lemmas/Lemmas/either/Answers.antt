@@ -1,12 +1,13 @@
 use Rattle.std.proofs.Common.{◌≡◌, ap, sym, ◌∙◌, [], refl}
 use Rattle.hol_terms.specs.Nameless.{nameless}
 use Rattle.hol_formulas.specs.Formula.{universal}
-use Rattle.hol_kernel.specs.Sequent.{only_hyp, sequent_of}
+use Rattle.hol_kernel.specs.Sequent.{sequent_of}
 use Rattle.hol_kernel.specs.Theorem.{theorem_on}
 use Rattle.hol_subst.proofs.Closing.{closed_named}
 use Rattle.hol_equal.proofs.Outcomes.{became}
 use Rattle.hol_derived.specs.Applied.{specialized}
 use Rattle.hol_derived.specs.Unfolded.{either, either_for_all}
+use Rattle.hol_terms.specs.Alpha.{strip}
 use Rattle.hol_derived.proofs.Disjunctions.{either_opened}
 use Rattle.hol_derived.proofs.Instances.{typed_at}
 use Rattle.hol_derived.proofs.lemmas.Lemmas.either.Goals as goal
@@ -20,7 +21,7 @@ follow-requires c =
       over = c.requires.one_basis;
       first = typed_at c.args.self.now A p p c.requires.one_basis refl c.requires.first;
       second = typed_at c.args.self.now A q q c.requires.one_basis refl c.requires.second;
-      proved = ap only_hyp (sym c.requires.is);
+      proved = ap strip (sym c.requires.is);
     }
 
 pub specialize-requires : goal.specialize-requires
