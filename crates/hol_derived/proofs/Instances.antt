@@ -28,12 +28,16 @@ use Rattle.hol_derived.specs.Applied.{constantly_true}
 use Rattle.hol_derived.specs.Unfolded.{letter, predicate, of_witness, exists_in, implied_by_all, either_for_all}
 use Rattle.hol_derived.specs.Lemmas.{hypothesis, conclusion, lemma_at, general, put, put_predicate, put_at}
 use Rattle.hol_derived.specs.declared.lemma.Lemma.{Lemma}
-use Rattle.hol_derived.specs.declared.lemma.Lemma.TheVariants.{EqtIntro, Conj, Conjunct1, Conjunct2, Mp, Disch, Disj1, Disj2, Contr, NotIntro, EqfIntro, Gen, DisjCases, Spec, Exists, Choose}
+use Rattle.hol_derived.specs.declared.lemma.Lemma.TheVariants.{EqtIntro, Both, Conj, Conjunct1, Conjunct2, Mp, Disch, Disj1, Disj2, Contr, NotIntro, EqfIntro, Gen, DisjCases, Spec, Exists, Choose}
 use Rattle.hol_derived.proofs.Disjunctions.{one_removed}
 
 -- what a map makes of one hypothesis
 image_one : (f : Nameless → Nameless) (h : Nameless) → hyps_image f (only_hyp h) ≡ set.insert no_hyps (strip (f (strip h)))
 image_one f h = map_of_set hyps_total hyps_same (λ k. strip (f k)) (strip h ∷ [])
+
+-- of two
+image_two : (f : Nameless → Nameless) (h k : Nameless) → hyps_image f (set.insert (only_hyp k) (strip h)) ≡ set.insert (set.insert no_hyps (strip (f (strip k)))) (strip (f (strip h)))
+image_two f h k = map_of_set hyps_total hyps_same (λ n. strip (f n)) (strip h ∷ strip k ∷ [])
 
 -- and of none
 image_none : (f : Nameless → Nameless) → hyps_image f no_hyps ≡ no_hyps
@@ -54,6 +58,7 @@ module _ (p q : Nameless) (c : IsClosed 0 p) (d : IsClosed 0 q) where
   assumed_is : (which : Lemma) → strip (given (strip (hypothesis which (letter (codes "p")) (letter (codes "q"))))) ≡ strip (hypothesis which p q)
   unfolding given
   assumed_is EqtIntro = ap strip first
+  assumed_is Both = ap strip second
   assumed_is Conj = ap strip second
   assumed_is Conjunct1 = λ i. strip (conjunction (first i) (second i))
   assumed_is Conjunct2 = λ i. strip (conjunction (first i) (second i))
@@ -73,6 +78,7 @@ module _ (p q : Nameless) (c : IsClosed 0 p) (d : IsClosed 0 q) where
   concluded_is : (which : Lemma) → given (conclusion which (letter (codes "p")) (letter (codes "q"))) ≡ conclusion which p q
   unfolding given
   concluded_is EqtIntro = λ i. equivalence (first i) truth
+  concluded_is Both = λ i. conjunction (first i) (second i)
   concluded_is Conj = λ i. equivalence (first i) (conjunction (first i) (second i))
   concluded_is Conjunct1 = first
   concluded_is Conjunct2 = second
@@ -97,6 +103,7 @@ module _ (p q : Nameless) (c : IsClosed 0 p) (d : IsClosed 0 q) where
   pub instance_is : (which : Lemma) → put p q (general which) ≡ lemma_at which p q
   unfolding given
   instance_is EqtIntro = λ i. sequent_of (image_none given i) (equivalence (first i) (equivalence (first i) truth))
+  instance_is Both = λ i. sequent_of ((image_two given (letter (codes "p")) (letter (codes "q")) ∙ (λ j. set.insert (set.insert no_hyps (strip (second j))) (strip (first j)))) i) (conjunction (first i) (second i))
   instance_is Conj = assuming Conj
   instance_is Conjunct1 = assuming Conjunct1
   instance_is Conjunct2 = assuming Conjunct2

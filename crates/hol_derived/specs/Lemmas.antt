@@ -2,10 +2,12 @@
 -- assumes, and what it concludes. Private clauses alone speak of them.
 use Rattle.std.specs.Prelude.{◌≡◌, Bool, true, false, cond, List, [], ◌∷◌, codes}
 use Rattle.std.specs.List.{AllByRecursion}
+use Rattle.std.specs.FinSet as set
 use Rattle.hol_types.specs.Tree.{TypeTree}
 use Rattle.hol_types.specs.Fun.{fun_type}
 use Rattle.hol_terms.specs.Named.{Named, var}
 use Rattle.hol_terms.specs.Nameless.{Nameless, fixed, app}
+use Rattle.hol_terms.specs.Alpha.{strip}
 use Rattle.hol_formulas.specs.Equation.{bool_type, equation}
 use Rattle.hol_formulas.specs.Formula.{quantifier_type, truth, falsity, negation, conjunction, disjunction, implication, equivalence, universal}
 use Rattle.hol_formulas.specs.Constants.{var_a}
@@ -14,14 +16,15 @@ use Rattle.hol_subst.specs.Substitution.{term_subst, types_inst}
 use Rattle.hol_kernel.specs.Items.{Items}
 use Rattle.hol_kernel.specs.Rules.{sequent_image}
 use Rattle.hol_kernel.specs.Theorem.{Theorem, theorem_on}
-use Rattle.hol_kernel.specs.Sequent.{no_hyps, only_hyp, Sequent, sequent_of}
+use Rattle.hol_kernel.specs.Sequent.{Hyps, no_hyps, only_hyp, Sequent, sequent_of}
 use Rattle.hol_derived.specs.Applied.{constantly_true}
 use Rattle.hol_derived.specs.Unfolded.{letter, predicate, of_witness, exists_in, implied_by_all, either_for_all}
 use Rattle.hol_derived.specs.declared.lemma.Lemma.{Lemma}
-use Rattle.hol_derived.specs.declared.lemma.Lemma.TheVariants.{EqtIntro, Conj, Conjunct1, Conjunct2, Mp, Disch, Disj1, Disj2, Contr, NotIntro, EqfIntro, Gen, DisjCases, Spec, Exists, Choose}
+use Rattle.hol_derived.specs.declared.lemma.Lemma.TheVariants.{EqtIntro, Both, Conj, Conjunct1, Conjunct2, Mp, Disch, Disj1, Disj2, Contr, NotIntro, EqfIntro, Gen, DisjCases, Spec, Exists, Choose}
 
 abbrev pub hypothesis : Lemma → Nameless → Nameless → Nameless
 hypothesis EqtIntro p q = p
+hypothesis Both p q = q
 hypothesis Conj p q = q
 hypothesis Conjunct1 p q = conjunction p q
 hypothesis Conjunct2 p q = conjunction p q
@@ -40,6 +43,7 @@ hypothesis Choose p q = exists_in var_a predicate
 
 abbrev pub conclusion : Lemma → Nameless → Nameless → Nameless
 conclusion EqtIntro p q = equivalence p truth
+conclusion Both p q = conjunction p q
 conclusion Conj p q = equivalence p (conjunction p q)
 conclusion Conjunct1 p q = p
 conclusion Conjunct2 p q = q
@@ -59,6 +63,7 @@ conclusion Choose p q = universal (implied_by_all var_a predicate)
 -- where the two are equivalent, the theorem assumes nothing and says that
 abbrev pub is_equation : Lemma → Bool
 is_equation EqtIntro = true
+is_equation Both = false
 is_equation Conj = false
 is_equation Conjunct1 = false
 is_equation Conjunct2 = false
@@ -75,10 +80,30 @@ is_equation Spec = false
 is_equation Exists = false
 is_equation Choose = false
 
+-- else it assumes the one, and p beside it where it is of both
+abbrev pub assumed : Lemma → Nameless → Nameless → Hyps
+assumed EqtIntro p q = only_hyp p
+assumed Both p q = set.insert (only_hyp q) (strip p)
+assumed Conj p q = only_hyp (hypothesis Conj p q)
+assumed Conjunct1 p q = only_hyp (hypothesis Conjunct1 p q)
+assumed Conjunct2 p q = only_hyp (hypothesis Conjunct2 p q)
+assumed Mp p q = only_hyp (hypothesis Mp p q)
+assumed Disch p q = only_hyp (hypothesis Disch p q)
+assumed Disj1 p q = only_hyp (hypothesis Disj1 p q)
+assumed Disj2 p q = only_hyp (hypothesis Disj2 p q)
+assumed Contr p q = only_hyp (hypothesis Contr p q)
+assumed NotIntro p q = only_hyp (hypothesis NotIntro p q)
+assumed EqfIntro p q = only_hyp (hypothesis EqfIntro p q)
+assumed Gen p q = only_hyp (hypothesis Gen p q)
+assumed DisjCases p q = only_hyp (hypothesis DisjCases p q)
+assumed Spec p q = only_hyp (hypothesis Spec p q)
+assumed Exists p q = only_hyp (hypothesis Exists p q)
+assumed Choose p q = only_hyp (hypothesis Choose p q)
+
 abbrev pub lemma_at : Lemma → Nameless → Nameless → Sequent
 lemma_at which p q =
     cond (is_equation which) (sequent_of no_hyps (equivalence (hypothesis which p q) (conclusion which p q)))
-    (sequent_of (only_hyp (hypothesis which p q)) (conclusion which p q))
+    (sequent_of (assumed which p q) (conclusion which p q))
 
 -- the general theorem itself, of the variables p and q of type bool
 abbrev pub general : Lemma → Sequent

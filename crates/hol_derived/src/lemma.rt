@@ -35,6 +35,8 @@ use std::alloc::{AllocError, Global};
 pub(crate) enum Lemma {
     /// `|- p <=> (p <=> T)`.
     EqtIntro,
+    /// `{p, q} |- p /\ q`.
+    Both,
     /// `{q} |- p <=> p /\ q`.
     Conj,
     /// `{p /\ q} |- p`.
@@ -68,8 +70,9 @@ pub(crate) enum Lemma {
 }
 
 /// The general theorems, those that are used most first.
-pub(crate) const LEMMAS: [Lemma; 16] = [
+pub(crate) const LEMMAS: [Lemma; 17] = [
     Lemma::Mp,
+    Lemma::Both,
     Lemma::Conj,
     Lemma::Conjunct1,
     Lemma::Conjunct2,
@@ -94,7 +97,7 @@ impl Lemma {
     {
         match self {
             Lemma::EqtIntro | Lemma::Disch | Lemma::NotIntro | Lemma::Gen => true,
-            Lemma::Conj | Lemma::Conjunct1 | Lemma::Conjunct2 => false,
+            Lemma::Both | Lemma::Conj | Lemma::Conjunct1 | Lemma::Conjunct2 => false,
             Lemma::Mp | Lemma::Disj1 | Lemma::Disj2 | Lemma::DisjCases => false,
             Lemma::Contr | Lemma::EqfIntro => false,
             Lemma::Spec | Lemma::Exists | Lemma::Choose => false,
@@ -108,6 +111,7 @@ pub(crate) fn derived(alloc: Global, basis: &Basis, which: Lemma) -> Result<Thm,
 {
     match which {
         Lemma::EqtIntro => eqt_intro(alloc, basis),
+        Lemma::Both => both(alloc, basis),
         Lemma::Conj => conj(alloc, basis),
         Lemma::Conjunct1 => conjunct1(alloc, basis),
         Lemma::Conjunct2 => conjunct2(alloc, basis),
@@ -151,6 +155,15 @@ fn eqt_intro(alloc: Global, basis: &Basis) -> Result<Thm, AllocError>
     let holds = letter_is_true(alloc, basis)?;
     let back = from_truth(alloc, &holds)?;
     Thm::deduct_antisym(alloc, &back, &holds)
+}
+
+// `{p, q} |- p /\ q`.
+fn both(alloc: Global, basis: &Basis) -> Result<Thm, AllocError>
+    ensures { IfOk result (λ th. th ≡ theorem_on basis.now (general Lemma.Both)) }
+{
+    let first = assumed_letter(alloc, basis, "p")?;
+    let second = assumed_letter(alloc, basis, "q")?;
+    conjunction::conj(alloc, &first, &second)
 }
 
 // `{q} |- p /\ q <=> p`.

@@ -10,10 +10,10 @@ ghost use Rattle.hol_formulas.specs.Prelude.{boolean};
 ghost use Rattle.hol_subst.specs.Substitution.{term_subst};
 ghost use Rattle.hol_kernel.specs.Items.{IsSubset, no_items};
 ghost use Rattle.hol_kernel.specs.Rules.{sequent_image};
-ghost use Rattle.hol_kernel.specs.Sequent.{no_hyps, sequent_of};
+ghost use Rattle.hol_kernel.specs.Sequent.{no_hyps, only_hyp, sequent_of};
 ghost use Rattle.hol_kernel.specs.Theorem.{theorem_on};
 ghost use Rattle.hol_kernel.specs.Typing.{HasType, is_type};
-ghost use Rattle.hol_derived.specs.Lemmas.{hypothesis, conclusion, lemma_at, general, put, put_predicate, put_at};
+ghost use Rattle.hol_derived.specs.Lemmas.{hypothesis, assumed, conclusion, lemma_at, general, put, put_predicate, put_at};
 
 use crate::lemma::{LEMMAS, Lemma, derived};
 use crate::letters::letter;
@@ -181,6 +181,7 @@ impl Lemmas {
         requires over { self.old ≡ premise.now.basis }
         requires first { HasType self.old (nameless [] p.now) bool_type }
         requires second { HasType self.old (nameless [] q.now) bool_type }
+        requires assumes { assumed which (nameless [] p.now) (nameless [] q.now) ≡ only_hyp (hypothesis which (nameless [] p.now) (nameless [] q.now)) }
         requires proved { strip (hypothesis which (nameless [] p.now) (nameless [] q.now)) ≡ strip premise.now.sequent.concl }
         ensures is { IfOk result (λ th. th ≡ theorem_on self.old (sequent_of premise.now.sequent.hyps (conclusion which (nameless [] p.now) (nameless [] q.now)))) }
         ensures kept { self.new ≡ self.old }

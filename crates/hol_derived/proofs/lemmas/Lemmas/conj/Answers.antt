@@ -20,6 +20,7 @@ follow-requires c =
       over = one ∙ c.requires.same_basis;
       first = typed_at c.args.self.now c.args.a.now.basis (nameless [] c.concl.result.now) c.args.a.now.sequent.concl one c.concl.ensures.concl c.well_typed.ensures.conclusion;
       second = typed_at c.args.self.now c.args.b.now.basis (nameless [] c.concl-2.result.now) c.args.b.now.sequent.concl (one ∙ c.requires.same_basis) c.concl-2.ensures.concl c.well_typed-2.ensures.conclusion;
+      assumes = refl;
       proved = ap strip c.concl-2.ensures.concl;
     }
 

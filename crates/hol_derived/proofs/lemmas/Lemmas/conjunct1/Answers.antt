@@ -31,6 +31,7 @@ follow-requires c =
       over = c.requires.one_basis;
       first = typed_at c.args.self.now A p p c.requires.one_basis refl typed.0;
       second = typed_at c.args.self.now A q q c.requires.one_basis refl typed.1;
+      assumes = refl;
       proved = ap strip (sym is);
     }
 

@@ -21,7 +21,7 @@ follow-requires c =
     let false : is_falsity a.concl ≡ true = holds (over A (contr_of A p a)) (is_falsity a.concl) c.requires.applies (λ e. ap (over A) (contr_other A p a e)) in
     let has : has_type A p bool_type ≡ true = holds (over A (contr_of A p a)) (has_type A p bool_type) c.requires.applies (λ e. ap (over A) (contr_none A p a e)) in
     let one : HasType c.args.self.now p bool_type = typed_at c.args.self.now A p p c.requires.one_basis refl (has_type_is A p bool_type has) in
-    record { over = c.requires.one_basis; first = one; second = one; proved = ap strip (sym (is_false a.concl false)) }
+    record { over = c.requires.one_basis; first = one; second = one; assumes = refl; proved = ap strip (sym (is_false a.concl false)) }
 
 pub returns-clause-gives : goal.returns-clause-gives
 returns-clause-gives c =

@@ -33,6 +33,7 @@ follow-requires c =
       over = own ∙ sym (ap (λ (th : Theorem). th.basis) c.in_ok-equal.ensures.gives);
       first = typed_at c.with_first.new.self A p p own refl (has_type_is A p bool_type has);
       second = typed_at c.with_first.new.self A (nameless [] c.concl.result.now) a.concl own c.concl.ensures.concl c.well_typed.ensures.conclusion;
+      assumes = refl;
       proved = (λ i. strip (equivalence (conjunction p (c.concl.ensures.concl i)) p)) ∙ sym (ap (λ (th : Theorem). strip th.sequent.concl) c.in_ok-equal.ensures.gives);
     }
 

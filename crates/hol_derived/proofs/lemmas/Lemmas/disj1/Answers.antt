@@ -22,7 +22,7 @@ follow-requires c =
     let has : has_type A x bool_type ≡ true = holds (over A (disj1_of A a x)) (has_type A x bool_type) c.requires.applies (λ e. ap (over A) (disj1_none A a x e)) in
     let given : HasType c.args.self.now x bool_type = typed_at c.args.self.now A x x c.requires.one_basis refl (has_type_is A x bool_type has) in
     let own : HasType c.args.self.now (nameless [] c.concl.result.now) bool_type = typed_at c.args.self.now A (nameless [] c.concl.result.now) a.concl c.requires.one_basis c.concl.ensures.concl c.well_typed.ensures.conclusion in
-    record { over = c.requires.one_basis; first = own; second = given; proved = ap strip c.concl.ensures.concl }
+    record { over = c.requires.one_basis; first = own; second = given; assumes = refl; proved = ap strip c.concl.ensures.concl }
 
 pub returns-clause-gives : goal.returns-clause-gives
 returns-clause-gives c =

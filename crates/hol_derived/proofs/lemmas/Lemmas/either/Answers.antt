@@ -21,6 +21,7 @@ follow-requires c =
       over = c.requires.one_basis;
       first = typed_at c.args.self.now A p p c.requires.one_basis refl c.requires.first;
       second = typed_at c.args.self.now A q q c.requires.one_basis refl c.requires.second;
+      assumes = refl;
       proved = ap strip (sym c.requires.is);
     }
 

@@ -1,5 +1,5 @@
 use Rattle.std.specs.Prelude.{None}
-use Rattle.std.proofs.Common.{◌≡◌, ap, sym, ◌∙◌, subst, [], Some, codes}
+use Rattle.std.proofs.Common.{◌≡◌, ap, sym, ◌∙◌, subst, [], Some, codes, refl}
 use Rattle.hol_terms.specs.Nameless.{Nameless, nameless}
 use Rattle.hol_formulas.specs.Equation.{bool_type}
 use Rattle.hol_formulas.specs.Formula.{negation, negation_type, equivalence, falsity, dest_neg}
@@ -31,7 +31,7 @@ follow-requires c =
     let part : own ≡ p = sym (ap rand (dest_unary_is (codes "~") negation_type a.concl own found)) in
     let typed : HasType A (negation p) bool_type = subst (λ (u : Nameless). HasType A u bool_type) c.requires.is c.well_typed.ensures.conclusion in
     let one : HasType c.args.self.now own bool_type = typed_at c.args.self.now A own p c.requires.one_basis part (argument_typed A (codes "~") bool_type bool_type bool_type p typed) in
-    record { over = c.requires.one_basis; first = one; second = one; proved = ap strip (ap negation part ∙ sym c.requires.is) }
+    record { over = c.requires.one_basis; first = one; second = one; assumes = refl; proved = ap strip (ap negation part ∙ sym c.requires.is) }
 
 pub returns-clause-gives : goal.returns-clause-gives
 returns-clause-gives c =

@@ -1,4 +1,4 @@
-use Rattle.std.proofs.Common.{ap, []}
+use Rattle.std.proofs.Common.{ap, [], refl}
 use Rattle.hol_terms.specs.Nameless.{nameless}
 use Rattle.hol_formulas.specs.Formula.{truth, equivalence}
 use Rattle.hol_kernel.specs.Sequent.{sequent_of}
@@ -17,6 +17,7 @@ follow-requires c =
       over = c.requires.one_basis;
       first = typed_at c.args.self.now A (nameless [] c.concl.result.now) a.concl c.requires.one_basis c.concl.ensures.concl c.well_typed.ensures.conclusion;
       second = typed_at c.args.self.now A (nameless [] c.concl-2.result.now) a.concl c.requires.one_basis c.concl-2.ensures.concl c.well_typed.ensures.conclusion;
+      assumes = refl;
       proved = ap strip c.concl.ensures.concl;
     }
 

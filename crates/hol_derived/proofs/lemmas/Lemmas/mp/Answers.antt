@@ -41,6 +41,7 @@ follow-requires c =
       over = c.requires.one_basis ∙ c.requires.same_basis;
       first = typed_at c.args.self.now A p p c.requires.one_basis refl typed.0;
       second = typed_at c.args.self.now A q q c.requires.one_basis refl typed.1;
+      assumes = refl;
       proved = (alpha_eq_decides p b.concl).0 same;
     }
 

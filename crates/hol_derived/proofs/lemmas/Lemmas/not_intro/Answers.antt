@@ -34,7 +34,7 @@ follow-requires c =
     let refutes : a.concl ≡ implication p falsity = is ∙ ap (implication p) (is_false q false) in
     let typed : HasType A p bool_type × HasType A q bool_type = operands_typed A (codes "==>") p q bool_type (subst (λ (u : Nameless). HasType A u bool_type) is c.well_typed.ensures.conclusion) in
     let one : HasType c.args.self.now p bool_type = typed_at c.args.self.now A p p c.requires.one_basis refl typed.0 in
-    record { over = c.requires.one_basis; first = one; second = one; proved = ap strip (sym refutes) }
+    record { over = c.requires.one_basis; first = one; second = one; assumes = refl; proved = ap strip (sym refutes) }
 
 pub returns-clause-gives : goal.returns-clause-gives
 returns-clause-gives c =
