@@ -25,8 +25,8 @@ use Rattle.hol_kernel.specs.Rules.{sequent_image, inst_of}
 use Rattle.hol_kernel.proofs.HypothesisLists.{hyps_total, hyps_same}
 use Rattle.hol_equal.proofs.HypSets.{none_right}
 use Rattle.hol_derived.specs.Applied.{constantly_true}
-use Rattle.hol_derived.specs.Unfolded.{letter, predicate, of_witness, exists_in, implied_by_all, either_for_all}
-use Rattle.hol_derived.specs.Lemmas.{hypothesis, conclusion, lemma_at, general, put, put_predicate, put_at}
+use Rattle.hol_derived.specs.Unfolded.{letter, predicate, of_witness, exists_in, implied_by_all, either}
+use Rattle.hol_derived.specs.Lemmas.{hypothesis, conclusion, lemma_at, general, put, put_three, put_predicate, put_at}
 use Rattle.hol_derived.specs.declared.lemma.Lemma.{Lemma}
 use Rattle.hol_derived.specs.declared.lemma.Lemma.TheVariants.{EqtIntro, Both, Conj, Conjunct1, Conjunct2, Mp, Disch, Disj1, Disj2, Contr, NotIntro, EqfIntro, Gen, DisjCases, Spec, Exists, Choose}
 use Rattle.hol_derived.proofs.Disjunctions.{one_removed}
@@ -90,7 +90,7 @@ module _ (p q : Nameless) (c : IsClosed 0 p) (d : IsClosed 0 q) where
   concluded_is NotIntro = λ i. negation (first i)
   concluded_is EqfIntro = λ i. equivalence (first i) falsity
   concluded_is Gen = refl
-  concluded_is DisjCases = λ i. universal (either_for_all (shift_whole 1 0 p c i) (shift_whole 1 0 q d i))
+  concluded_is DisjCases = λ i. either (first i) (second i) (letter (codes "r"))
   concluded_is Spec = refl
   concluded_is Exists = refl
   concluded_is Choose = refl
@@ -124,6 +124,25 @@ module _ (p q : Nameless) (c : IsClosed 0 p) (d : IsClosed 0 q) where
 pub formulas_fit : (basis : Items) (p q : Named) (s : Sequent) → HasType basis (nameless [] p) bool_type → HasType basis (nameless [] q) bool_type → inst_of basis ((p, var (boolean (codes "p"))) ∷ (q, var (boolean (codes "q"))) ∷ []) s ≡ Some (put (nameless [] p) (nameless [] q) s)
 formulas_fit basis p q s typed also =
     λ i. cond (is_type_at (typed i) bool_type && (is_type_at (also i) bool_type && true)) (Some (put (nameless [] p) (nameless [] q) s)) None
+
+-- ---- and r
+
+module _ (p q r : Nameless) (c : IsClosed 0 p) (d : IsClosed 0 q) (e : IsClosed 0 r) where
+  three : Nameless → Nameless
+  three t = term_subst ((p, boolean (codes "p")) ∷ (q, boolean (codes "q")) ∷ (r, boolean (codes "r")) ∷ []) 0 t
+
+  pub cases_are : put_three p q r (general DisjCases) ≡ sequent_of (only_hyp (disjunction p q)) (either p q r)
+  unfolding three
+  cases_are =
+      λ i.
+      sequent_of ((image_one three (disjunction (letter (codes "p")) (letter (codes "q"))) ∙ (λ j. set.insert no_hyps (strip (disjunction (shift_whole 0 0 p c j) (shift_whole 0 0 q d j))))) i)
+      (either (shift_whole 0 0 p c i) (shift_whole 0 0 q d i) (shift_whole 0 0 r e i))
+
+pub three_fit :
+    (basis : Items) (p q r : Named) (s : Sequent) → HasType basis (nameless [] p) bool_type → HasType basis (nameless [] q) bool_type → HasType basis (nameless [] r) bool_type →
+    inst_of basis ((p, var (boolean (codes "p"))) ∷ (q, var (boolean (codes "q"))) ∷ (r, var (boolean (codes "r"))) ∷ []) s ≡ Some (put_three (nameless [] p) (nameless [] q) (nameless [] r) s)
+three_fit basis p q r s typed also third =
+    λ i. cond (is_type_at (typed i) bool_type && (is_type_at (also i) bool_type && (is_type_at (third i) bool_type && true))) (Some (put_three (nameless [] p) (nameless [] q) (nameless [] r) s)) None
 
 -- ---- a predicate for P
 

@@ -18,7 +18,7 @@ use Rattle.hol_kernel.specs.Rules.{sequent_image}
 use Rattle.hol_kernel.specs.Theorem.{Theorem, theorem_on}
 use Rattle.hol_kernel.specs.Sequent.{Hyps, no_hyps, only_hyp, Sequent, sequent_of}
 use Rattle.hol_derived.specs.Applied.{constantly_true}
-use Rattle.hol_derived.specs.Unfolded.{letter, predicate, of_witness, exists_in, implied_by_all, either_for_all}
+use Rattle.hol_derived.specs.Unfolded.{letter, predicate, of_witness, exists_in, implied_by_all, either}
 use Rattle.hol_derived.specs.declared.lemma.Lemma.{Lemma}
 use Rattle.hol_derived.specs.declared.lemma.Lemma.TheVariants.{EqtIntro, Both, Conj, Conjunct1, Conjunct2, Mp, Disch, Disj1, Disj2, Contr, NotIntro, EqfIntro, Gen, DisjCases, Spec, Exists, Choose}
 
@@ -55,7 +55,7 @@ conclusion Contr p q = p
 conclusion NotIntro p q = negation p
 conclusion EqfIntro p q = equivalence p falsity
 conclusion Gen p q = app (fixed (codes "!") (quantifier_type var_a)) predicate
-conclusion DisjCases p q = universal (either_for_all p q)
+conclusion DisjCases p q = either p q (letter (codes "r"))
 conclusion Spec p q = of_witness
 conclusion Exists p q = exists_in var_a predicate
 conclusion Choose p q = universal (implied_by_all var_a predicate)
@@ -121,6 +121,10 @@ AreKept basis made holds p q =
 -- p and q for the variables of these names, in a sequent
 abbrev pub put : Nameless → Nameless → Sequent → Sequent
 put p q a = sequent_image (term_subst ((p, boolean (codes "p")) ∷ (q, boolean (codes "q")) ∷ []) 0) a
+
+-- and r for the variable of its name
+abbrev pub put_three : Nameless → Nameless → Nameless → Sequent → Sequent
+put_three p q r a = sequent_image (term_subst ((p, boolean (codes "p")) ∷ (q, boolean (codes "q")) ∷ (r, boolean (codes "r")) ∷ []) 0) a
 
 -- a predicate f on the type a for P:A->bool, in a sequent
 abbrev pub put_predicate : TypeTree → Nameless → Sequent → Sequent

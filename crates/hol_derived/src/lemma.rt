@@ -6,7 +6,7 @@ ghost use Rattle.hol_terms.specs.Nameless.{app, fixed};
 ghost use Rattle.hol_types.specs.Fun.{fun_type};
 ghost use Rattle.hol_formulas.specs.Constants.{var_a};
 ghost use Rattle.hol_formulas.specs.Equation.{bool_type, equation};
-ghost use Rattle.hol_formulas.specs.Formula.{truth, conjunction, implication, equivalence, quantifier_type};
+ghost use Rattle.hol_formulas.specs.Formula.{truth, conjunction, disjunction, implication, equivalence, quantifier_type, universal};
 ghost use Rattle.hol_formulas.specs.Making.{mk_conj, mk_imp};
 ghost use Rattle.hol_formulas.specs.Prelude.{boolean};
 ghost use Rattle.hol_kernel.specs.Sequent.{no_hyps, only_hyp, sequent_of};
@@ -14,7 +14,7 @@ ghost use Rattle.hol_kernel.specs.Theorem.{theorem_on};
 ghost use Rattle.hol_equal.specs.Applied.{lhs, rhs};
 ghost use Rattle.hol_derived.specs.Applied.{imp_unfolded, discharged, constantly_true};
 ghost use Rattle.hol_derived.specs.Lemmas.{is_equation, general};
-ghost use Rattle.hol_derived.specs.Unfolded.{letter, predicate};
+ghost use Rattle.hol_derived.specs.Unfolded.{letter, predicate, either_for_all};
 
 use crate::conjunction;
 use crate::definitions::{forall_at, unfold};
@@ -23,6 +23,7 @@ use crate::falsity::{self, from_falsity, not_at};
 use crate::implication::{self, first_of, imp_at, with_first};
 use crate::letters::letter;
 use crate::truth::{eqt_elim, true_if_assumed};
+use crate::universal::spec;
 use crate::witness::{element_term, element_type, exists_at_property, from_witness, property_term};
 use hol_equal::applied::{assume, eq_mp, sides_of, sym};
 use hol_formulas::{bool_type, mk_conj, mk_imp, mk_neg};
@@ -59,7 +60,7 @@ pub(crate) enum Lemma {
     EqfIntro,
     /// `|- P = (\x:A. T) <=> (!) P`.
     Gen,
-    /// `{p \/ q} |- !r. (p ==> r) ==> (q ==> r) ==> r`.
+    /// `{p \/ q} |- (p ==> r) ==> (q ==> r) ==> r`.
     DisjCases,
     /// `{(!) P} |- P (x:A)`.
     Spec,
@@ -322,11 +323,20 @@ fn assumed_left(alloc: Global, equal: &Thm) -> Result<Thm, AllocError>
 }
 
 // `{p \/ q} |- !r. (p ==> r) ==> (q ==> r) ==> r`.
-fn disj_cases(alloc: Global, basis: &Basis) -> Result<Thm, AllocError>
-    ensures { IfOk result (λ th. th ≡ theorem_on basis.now (general Lemma.DisjCases)) }
+fn every_conclusion(alloc: Global, basis: &Basis) -> Result<Thm, AllocError>
+    ensures { IfOk result (λ th. th ≡ theorem_on basis.now (sequent_of (only_hyp (disjunction (letter (codes "p")) (letter (codes "q")))) (universal (either_for_all (letter (codes "p")) (letter (codes "q")))))) }
 {
     let equal = or_at_letters(alloc, basis)?;
     assumed_left(alloc, &equal)
+}
+
+// `{p \/ q} |- (p ==> r) ==> (q ==> r) ==> r`.
+fn disj_cases(alloc: Global, basis: &Basis) -> Result<Thm, AllocError>
+    ensures { IfOk result (λ th. th ≡ theorem_on basis.now (general Lemma.DisjCases)) }
+{
+    let every = every_conclusion(alloc, basis)?;
+    let r = letter(alloc, "r")?;
+    spec(alloc, &r, &every)
 }
 
 // `{(?) P} |- !q. (!x:A. P x ==> q) ==> q`.

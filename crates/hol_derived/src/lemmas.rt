@@ -13,7 +13,7 @@ ghost use Rattle.hol_kernel.specs.Rules.{sequent_image};
 ghost use Rattle.hol_kernel.specs.Sequent.{no_hyps, only_hyp, sequent_of};
 ghost use Rattle.hol_kernel.specs.Theorem.{theorem_on};
 ghost use Rattle.hol_kernel.specs.Typing.{HasType, is_type};
-ghost use Rattle.hol_derived.specs.Lemmas.{hypothesis, assumed, conclusion, lemma_at, general, put, put_predicate, put_at};
+ghost use Rattle.hol_derived.specs.Lemmas.{hypothesis, assumed, conclusion, lemma_at, general, put, put_three, put_predicate, put_at};
 
 use crate::lemma::{LEMMAS, Lemma, derived};
 use crate::letters::letter;
@@ -149,6 +149,39 @@ impl Lemmas {
         ensures { IfOk result (λ th. th ≡ theorem_on a.now.basis (put (nameless [] p.now) (nameless [] q.now) a.now.sequent)) }
     {
         let pairs = self.beside_letters(alloc, p, q)?;
+        Thm::inst_typed(alloc, &pairs, a)
+    }
+
+    // The formulas beside the variables `p`, `q` and `r`.
+    fn beside_three(
+        &self,
+        alloc: Global,
+        p: &Term,
+        q: &Term,
+        r: &Term,
+    ) -> Result<Vec<(Term, Term)>, AllocError>
+        ensures { IfOk result (λ pairs. pairs.items ≡ (p.now, var (boolean (codes "p"))) ∷ (q.now, var (boolean (codes "q"))) ∷ (r.now, var (boolean (codes "r"))) ∷ []) }
+    {
+        let mut pairs = self.beside_letters(alloc, p, q)?;
+        pairs.push((r.copy()?, letter(alloc, "r")?))?;
+        Ok(pairs)
+    }
+
+    /// INST: the theorem with the formulas for the variables `p`, `q` and `r`.
+    pub(crate) fn with_three(
+        &self,
+        alloc: Global,
+        a: &Thm,
+        p: &Term,
+        q: &Term,
+        r: &Term,
+    ) -> Result<Thm, AllocError>
+        requires first { HasType a.now.basis (nameless [] p.now) bool_type }
+        requires second { HasType a.now.basis (nameless [] q.now) bool_type }
+        requires third { HasType a.now.basis (nameless [] r.now) bool_type }
+        ensures { IfOk result (λ th. th ≡ theorem_on a.now.basis (put_three (nameless [] p.now) (nameless [] q.now) (nameless [] r.now) a.now.sequent)) }
+    {
+        let pairs = self.beside_three(alloc, p, q, r)?;
         Thm::inst_typed(alloc, &pairs, a)
     }
 
