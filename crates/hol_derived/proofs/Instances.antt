@@ -28,7 +28,7 @@ use Rattle.hol_derived.specs.Applied.{constantly_true}
 use Rattle.hol_derived.specs.Unfolded.{letter, predicate, of_witness, exists_in, implied_by_all, either}
 use Rattle.hol_derived.specs.Lemmas.{hypothesis, conclusion, lemma_at, general, put, put_three, put_predicate, put_at}
 use Rattle.hol_derived.specs.declared.lemma.Lemma.{Lemma}
-use Rattle.hol_derived.specs.declared.lemma.Lemma.TheVariants.{EqtIntro, Both, Conj, Conjunct1, Conjunct2, Mp, Disch, Disj1, Disj2, Contr, NotIntro, EqfIntro, Gen, DisjCases, Spec, Exists, Choose}
+use Rattle.hol_derived.specs.declared.lemma.Lemma.TheVariants.{EqtIntro, Turn, Both, Conj, Conjunct1, Conjunct2, Mp, Disch, Disj1, Disj2, Contr, NotIntro, EqfIntro, Gen, DisjCases, Spec, Exists, Choose}
 use Rattle.hol_derived.proofs.Disjunctions.{one_removed}
 
 -- what a map makes of one hypothesis
@@ -58,6 +58,7 @@ module _ (p q : Nameless) (c : IsClosed 0 p) (d : IsClosed 0 q) where
   assumed_is : (which : Lemma) → strip (given (strip (hypothesis which (letter (codes "p")) (letter (codes "q"))))) ≡ strip (hypothesis which p q)
   unfolding given
   assumed_is EqtIntro = ap strip first
+  assumed_is Turn = λ i. strip (equivalence (first i) (second i))
   assumed_is Both = ap strip second
   assumed_is Conj = ap strip second
   assumed_is Conjunct1 = λ i. strip (conjunction (first i) (second i))
@@ -78,6 +79,7 @@ module _ (p q : Nameless) (c : IsClosed 0 p) (d : IsClosed 0 q) where
   concluded_is : (which : Lemma) → given (conclusion which (letter (codes "p")) (letter (codes "q"))) ≡ conclusion which p q
   unfolding given
   concluded_is EqtIntro = λ i. equivalence (first i) truth
+  concluded_is Turn = λ i. equivalence (second i) (first i)
   concluded_is Both = λ i. conjunction (first i) (second i)
   concluded_is Conj = λ i. equivalence (first i) (conjunction (first i) (second i))
   concluded_is Conjunct1 = first
@@ -103,6 +105,7 @@ module _ (p q : Nameless) (c : IsClosed 0 p) (d : IsClosed 0 q) where
   pub instance_is : (which : Lemma) → put p q (general which) ≡ lemma_at which p q
   unfolding given
   instance_is EqtIntro = λ i. sequent_of (image_none given i) (equivalence (first i) (equivalence (first i) truth))
+  instance_is Turn = λ i. sequent_of (image_none given i) (equivalence (equivalence (first i) (second i)) (equivalence (second i) (first i)))
   instance_is Both = λ i. sequent_of ((image_two given (letter (codes "p")) (letter (codes "q")) ∙ (λ j. set.insert (set.insert no_hyps (strip (second j))) (strip (first j)))) i) (conjunction (first i) (second i))
   instance_is Conj = assuming Conj
   instance_is Conjunct1 = assuming Conjunct1

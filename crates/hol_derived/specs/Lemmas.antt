@@ -20,10 +20,11 @@ use Rattle.hol_kernel.specs.Sequent.{Hyps, no_hyps, only_hyp, Sequent, sequent_o
 use Rattle.hol_derived.specs.Applied.{constantly_true}
 use Rattle.hol_derived.specs.Unfolded.{letter, predicate, of_witness, exists_in, implied_by_all, either}
 use Rattle.hol_derived.specs.declared.lemma.Lemma.{Lemma}
-use Rattle.hol_derived.specs.declared.lemma.Lemma.TheVariants.{EqtIntro, Both, Conj, Conjunct1, Conjunct2, Mp, Disch, Disj1, Disj2, Contr, NotIntro, EqfIntro, Gen, DisjCases, Spec, Exists, Choose}
+use Rattle.hol_derived.specs.declared.lemma.Lemma.TheVariants.{EqtIntro, Turn, Both, Conj, Conjunct1, Conjunct2, Mp, Disch, Disj1, Disj2, Contr, NotIntro, EqfIntro, Gen, DisjCases, Spec, Exists, Choose}
 
 abbrev pub hypothesis : Lemma → Nameless → Nameless → Nameless
 hypothesis EqtIntro p q = p
+hypothesis Turn p q = equivalence p q
 hypothesis Both p q = q
 hypothesis Conj p q = q
 hypothesis Conjunct1 p q = conjunction p q
@@ -43,6 +44,7 @@ hypothesis Choose p q = exists_in var_a predicate
 
 abbrev pub conclusion : Lemma → Nameless → Nameless → Nameless
 conclusion EqtIntro p q = equivalence p truth
+conclusion Turn p q = equivalence q p
 conclusion Both p q = conjunction p q
 conclusion Conj p q = equivalence p (conjunction p q)
 conclusion Conjunct1 p q = p
@@ -63,6 +65,7 @@ conclusion Choose p q = universal (implied_by_all var_a predicate)
 -- where the two are equivalent, the theorem assumes nothing and says that
 abbrev pub is_equation : Lemma → Bool
 is_equation EqtIntro = true
+is_equation Turn = true
 is_equation Both = false
 is_equation Conj = false
 is_equation Conjunct1 = false
@@ -83,6 +86,7 @@ is_equation Choose = false
 -- else it assumes the one, and p beside it where it is of both
 abbrev pub assumed : Lemma → Nameless → Nameless → Hyps
 assumed EqtIntro p q = only_hyp p
+assumed Turn p q = only_hyp (hypothesis Turn p q)
 assumed Both p q = set.insert (only_hyp q) (strip p)
 assumed Conj p q = only_hyp (hypothesis Conj p q)
 assumed Conjunct1 p q = only_hyp (hypothesis Conjunct1 p q)

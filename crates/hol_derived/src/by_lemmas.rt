@@ -233,6 +233,20 @@ impl Lemmas {
         self.follow(alloc, Lemma::EqtIntro, a.concl(), a.concl(), a)
     }
 
+    /// SYM of an equation of formulas: from `p <=> q`, `q <=> p`.
+    pub(crate) fn turned(&mut self, alloc: Global, a: &Thm) -> Result<Thm, AllocError>
+        requires one_basis { self.old ≡ a.now.basis }
+        requires is { a.now.sequent.concl ≡ equivalence (lhs a.now.sequent.concl) (rhs a.now.sequent.concl) }
+        ensures gives { IfOk result (λ th. th ≡ theorem_on a.now.basis (sequent_of a.now.sequent.hyps (equivalence (rhs a.now.sequent.concl) (lhs a.now.sequent.concl)))) }
+        ensures kept { self.new ≡ self.old }
+    {
+        a.well_typed();
+        let Some(sides) = sides_of(a) else {
+            unreachable!()
+        };
+        self.follow(alloc, Lemma::Turn, sides.left, sides.right, a)
+    }
+
     // From `p`, `(\v. p) = (\v. T)`.
     fn under_truth(&mut self, alloc: Global, v: &Variable, a: &Thm) -> Result<Thm, AllocError>
         requires one_basis { self.old ≡ a.now.basis }

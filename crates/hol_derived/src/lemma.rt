@@ -26,7 +26,7 @@ use crate::truth::{eqt_elim, true_if_assumed};
 use crate::universal::spec;
 use crate::witness::{element_term, element_type, exists_at_property, from_witness, property_term};
 use hol_equal::applied::{assume, eq_mp, sides_of, sym};
-use hol_formulas::{bool_type, mk_conj, mk_imp, mk_neg};
+use hol_formulas::{bool_type, mk_conj, mk_eq, mk_imp, mk_neg};
 use hol_kernel::{Basis, Thm};
 use hol_terms::Term;
 use std::alloc::{AllocError, Global};
@@ -36,6 +36,8 @@ use std::alloc::{AllocError, Global};
 pub(crate) enum Lemma {
     /// `|- p <=> (p <=> T)`.
     EqtIntro,
+    /// `|- (p <=> q) <=> (q <=> p)`.
+    Turn,
     /// `{p, q} |- p /\ q`.
     Both,
     /// `{q} |- p <=> p /\ q`.
@@ -71,7 +73,7 @@ pub(crate) enum Lemma {
 }
 
 /// The general theorems, those that are used most first.
-pub(crate) const LEMMAS: [Lemma; 17] = [
+pub(crate) const LEMMAS: [Lemma; 18] = [
     Lemma::Mp,
     Lemma::Both,
     Lemma::Conj,
@@ -82,6 +84,7 @@ pub(crate) const LEMMAS: [Lemma; 17] = [
     Lemma::EqtIntro,
     Lemma::Gen,
     Lemma::Exists,
+    Lemma::Turn,
     Lemma::Choose,
     Lemma::DisjCases,
     Lemma::Disj1,
@@ -97,7 +100,7 @@ impl Lemma {
         ensures { result ≡ is_equation self }
     {
         match self {
-            Lemma::EqtIntro | Lemma::Disch | Lemma::NotIntro | Lemma::Gen => true,
+            Lemma::EqtIntro | Lemma::Turn | Lemma::Disch | Lemma::NotIntro | Lemma::Gen => true,
             Lemma::Both | Lemma::Conj | Lemma::Conjunct1 | Lemma::Conjunct2 => false,
             Lemma::Mp | Lemma::Disj1 | Lemma::Disj2 | Lemma::DisjCases => false,
             Lemma::Contr | Lemma::EqfIntro => false,
@@ -112,6 +115,7 @@ pub(crate) fn derived(alloc: Global, basis: &Basis, which: Lemma) -> Result<Thm,
 {
     match which {
         Lemma::EqtIntro => eqt_intro(alloc, basis),
+        Lemma::Turn => turn(alloc, basis),
         Lemma::Both => both(alloc, basis),
         Lemma::Conj => conj(alloc, basis),
         Lemma::Conjunct1 => conjunct1(alloc, basis),
@@ -156,6 +160,27 @@ fn eqt_intro(alloc: Global, basis: &Basis) -> Result<Thm, AllocError>
     let holds = letter_is_true(alloc, basis)?;
     let back = from_truth(alloc, &holds)?;
     Thm::deduct_antisym(alloc, &back, &holds)
+}
+
+// `{l <=> r} |- r <=> l`, of the variables of the names.
+fn turned_letters(alloc: Global, basis: &Basis, left: &str, right: &str) -> Result<Thm, AllocError>
+    ensures { IfOk result (λ th. th ≡ theorem_on basis.now (sequent_of (only_hyp (equivalence (letter left.now) (letter right.now))) (equivalence (letter right.now) (letter left.now)))) }
+{
+    let l = letter(alloc, left)?;
+    let r = letter(alloc, right)?;
+    let truth = bool_type(alloc)?;
+    let equal = mk_eq(alloc, &truth, &l, &r)?;
+    let assumed = assume(alloc, basis, &equal)?;
+    sym(alloc, &assumed)
+}
+
+// `|- (p <=> q) <=> (q <=> p)`.
+fn turn(alloc: Global, basis: &Basis) -> Result<Thm, AllocError>
+    ensures { IfOk result (λ th. th ≡ theorem_on basis.now (general Lemma.Turn)) }
+{
+    let forward = turned_letters(alloc, basis, "p", "q")?;
+    let back = turned_letters(alloc, basis, "q", "p")?;
+    Thm::deduct_antisym(alloc, &back, &forward)
 }
 
 // `{p, q} |- p /\ q`.
