@@ -71,3 +71,44 @@ discharged p c hs =
     (in_rest (set.union (only_hyp p) hs) (strip p) q ∙ ap (λ b. not (is q (strip p)) && b) (in_union (only_hyp p) hs q ∙ ap (λ b. b || has hs q) (in_one p q))) i
     || (in_rest (only_hyp c) (strip c) q ∙ ap (λ b. not (is q (strip c)) && b) (in_one c q)) i)
     ∙ discharged_ways (is q (strip p)) (is q (strip c)) (has hs q) ∙ sym (in_rest hs (strip p) q))
+
+-- p /\ q from {p, q} |- p /\ q and hs |- q, without p
+joined_ways : (p q c a : Bool) → ((not p && (a || (not q && (p || (q || false))))) || (not c && (c || false))) ≡ (not p && a)
+joined_ways true q true a = refl
+joined_ways true q false a = refl
+joined_ways false true true true = refl
+joined_ways false true true false = refl
+joined_ways false true false true = refl
+joined_ways false true false false = refl
+joined_ways false false true true = refl
+joined_ways false false true false = refl
+joined_ways false false false true = refl
+joined_ways false false false false = refl
+
+in_two : (p q n : Nameless) → has (set.insert (only_hyp q) (strip p)) n ≡ (is n (strip p) || (is n (strip q) || false))
+in_two p q n = set.contains-insert hyps_total (only_hyp q) (strip p) n ∙ ap (λ b. is n (strip p) || b) (in_one q n)
+
+pub joined :
+    (p q c : Nameless) (hs : Hyps) →
+    set.union (set.remove (set.union hs (set.remove (set.insert (only_hyp q) (strip p)) (strip q))) (strip p)) (set.remove (only_hyp c) (strip c)) ≡ set.remove hs (strip p)
+joined p q c hs =
+    same _ _
+    (λ n.
+    in_union (set.remove (set.union hs (set.remove (set.insert (only_hyp q) (strip p)) (strip q))) (strip p)) (set.remove (only_hyp c) (strip c)) n
+    ∙ (λ i.
+    (in_rest (set.union hs (set.remove (set.insert (only_hyp q) (strip p)) (strip q))) (strip p) n
+    ∙ ap (λ b. not (is n (strip p)) && b)
+    (in_union hs (set.remove (set.insert (only_hyp q) (strip p)) (strip q)) n
+    ∙ ap (λ b. has hs n || b) (in_rest (set.insert (only_hyp q) (strip p)) (strip q) n ∙ ap (λ b. not (is n (strip q)) && b) (in_two p q n)))) i
+    || (in_rest (only_hyp c) (strip c) n ∙ ap (λ b. not (is n (strip c)) && b) (in_one c n)) i)
+    ∙ joined_ways (is n (strip p)) (is n (strip q)) (is n (strip c)) (has hs n) ∙ sym (in_rest hs (strip p) n))
+
+both_ways : (p q : Bool) → ((p || false) || (q || false)) ≡ (p || (q || false))
+both_ways true q = refl
+both_ways false q = refl
+
+pub two : (p q : Nameless) → set.union (only_hyp p) (only_hyp q) ≡ set.insert (only_hyp q) (strip p)
+two p q =
+    same _ _
+    (λ n.
+    in_union (only_hyp p) (only_hyp q) n ∙ (λ i. in_one p n i || in_one q n i) ∙ both_ways (is n (strip p)) (is n (strip q)) ∙ sym (in_two p q n))

@@ -25,15 +25,23 @@ use Rattle.hol_kernel.specs.Rules.{sequent_image, inst_of}
 use Rattle.hol_kernel.proofs.HypothesisLists.{hyps_total, hyps_same}
 use Rattle.hol_equal.proofs.HypSets.{none_right}
 use Rattle.hol_derived.specs.Applied.{constantly_true}
-use Rattle.hol_derived.specs.Unfolded.{letter, predicate, of_witness, exists_in, implied_by_all, either_for_all}
-use Rattle.hol_derived.specs.Lemmas.{hypothesis, conclusion, lemma_at, general, put, put_predicate, put_at}
+use Rattle.hol_derived.specs.Unfolded.{letter, predicate, of_witness, exists_in, implied_by_all, either}
+use Rattle.hol_derived.specs.Lemmas.{hypothesis, conclusion, lemma_at, general, put, put_three, put_predicate, put_at}
 use Rattle.hol_derived.specs.declared.lemma.Lemma.{Lemma}
-use Rattle.hol_derived.specs.declared.lemma.Lemma.TheVariants.{EqtIntro, Conj, Conjunct1, Conjunct2, Mp, Disch, Disj1, Disj2, Contr, NotIntro, EqfIntro, Gen, DisjCases, Spec, Exists, Choose}
+use Rattle.hol_derived.specs.declared.lemma.Lemma.TheVariants.{EqtIntro, Turn, Both, Conj, Conjunct1, Conjunct2, Mp, Disch, Disj1, Disj2, Contr, NotIntro, EqfIntro, Gen, DisjCases, Spec, Exists, Choose}
 use Rattle.hol_derived.proofs.Disjunctions.{one_removed}
 
 -- what a map makes of one hypothesis
 image_one : (f : Nameless → Nameless) (h : Nameless) → hyps_image f (only_hyp h) ≡ set.insert no_hyps (strip (f (strip h)))
 image_one f h = map_of_set hyps_total hyps_same (λ k. strip (f k)) (strip h ∷ [])
+
+-- of two
+image_two : (f : Nameless → Nameless) (h k : Nameless) → hyps_image f (set.insert (only_hyp k) (strip h)) ≡ set.insert (set.insert no_hyps (strip (f (strip k)))) (strip (f (strip h)))
+image_two f h k = map_of_set hyps_total hyps_same (λ n. strip (f n)) (strip h ∷ strip k ∷ [])
+
+-- and of none
+image_none : (f : Nameless → Nameless) → hyps_image f no_hyps ≡ no_hyps
+image_none f = map_of_set hyps_total hyps_same (λ k. strip (f k)) []
 
 -- ---- formulas for the variables p and q
 
@@ -50,6 +58,8 @@ module _ (p q : Nameless) (c : IsClosed 0 p) (d : IsClosed 0 q) where
   assumed_is : (which : Lemma) → strip (given (strip (hypothesis which (letter (codes "p")) (letter (codes "q"))))) ≡ strip (hypothesis which p q)
   unfolding given
   assumed_is EqtIntro = ap strip first
+  assumed_is Turn = λ i. strip (equivalence (first i) (second i))
+  assumed_is Both = ap strip second
   assumed_is Conj = ap strip second
   assumed_is Conjunct1 = λ i. strip (conjunction (first i) (second i))
   assumed_is Conjunct2 = λ i. strip (conjunction (first i) (second i))
@@ -69,6 +79,8 @@ module _ (p q : Nameless) (c : IsClosed 0 p) (d : IsClosed 0 q) where
   concluded_is : (which : Lemma) → given (conclusion which (letter (codes "p")) (letter (codes "q"))) ≡ conclusion which p q
   unfolding given
   concluded_is EqtIntro = λ i. equivalence (first i) truth
+  concluded_is Turn = λ i. equivalence (second i) (first i)
+  concluded_is Both = λ i. conjunction (first i) (second i)
   concluded_is Conj = λ i. equivalence (first i) (conjunction (first i) (second i))
   concluded_is Conjunct1 = first
   concluded_is Conjunct2 = second
@@ -80,20 +92,60 @@ module _ (p q : Nameless) (c : IsClosed 0 p) (d : IsClosed 0 q) where
   concluded_is NotIntro = λ i. negation (first i)
   concluded_is EqfIntro = λ i. equivalence (first i) falsity
   concluded_is Gen = refl
-  concluded_is DisjCases = λ i. universal (either_for_all (shift_whole 1 0 p c i) (shift_whole 1 0 q d i))
+  concluded_is DisjCases = λ i. either (first i) (second i) (letter (codes "r"))
   concluded_is Spec = refl
   concluded_is Exists = refl
   concluded_is Choose = refl
 
+  assuming : (which : Lemma) → put p q (sequent_of (only_hyp (hypothesis which (letter (codes "p")) (letter (codes "q")))) (conclusion which (letter (codes "p")) (letter (codes "q")))) ≡ sequent_of (only_hyp (hypothesis which p q)) (conclusion which p q)
+  unfolding given
+  assuming which =
+      λ i. sequent_of ((image_one given (hypothesis which (letter (codes "p")) (letter (codes "q"))) ∙ ap (λ k. set.insert no_hyps k) (assumed_is which)) i) (concluded_is which i)
+
   pub instance_is : (which : Lemma) → put p q (general which) ≡ lemma_at which p q
   unfolding given
-  instance_is which =
-      λ i. sequent_of ((image_one given (hypothesis which (letter (codes "p")) (letter (codes "q"))) ∙ ap (λ k. set.insert no_hyps k) (assumed_is which)) i) (concluded_is which i)
+  instance_is EqtIntro = λ i. sequent_of (image_none given i) (equivalence (first i) (equivalence (first i) truth))
+  instance_is Turn = λ i. sequent_of (image_none given i) (equivalence (equivalence (first i) (second i)) (equivalence (second i) (first i)))
+  instance_is Both = λ i. sequent_of ((image_two given (letter (codes "p")) (letter (codes "q")) ∙ (λ j. set.insert (set.insert no_hyps (strip (second j))) (strip (first j)))) i) (conjunction (first i) (second i))
+  instance_is Conj = assuming Conj
+  instance_is Conjunct1 = assuming Conjunct1
+  instance_is Conjunct2 = assuming Conjunct2
+  instance_is Mp = assuming Mp
+  instance_is Disch = λ i. sequent_of (image_none given i) (equivalence (equivalence (conjunction (first i) (second i)) (first i)) (implication (first i) (second i)))
+  instance_is Disj1 = assuming Disj1
+  instance_is Disj2 = assuming Disj2
+  instance_is Contr = assuming Contr
+  instance_is NotIntro = λ i. sequent_of (image_none given i) (equivalence (implication (first i) falsity) (negation (first i)))
+  instance_is EqfIntro = assuming EqfIntro
+  instance_is Gen = λ i. sequent_of (image_none given i) (general Gen).concl
+  instance_is DisjCases = assuming DisjCases
+  instance_is Spec = assuming Spec
+  instance_is Exists = assuming Exists
+  instance_is Choose = assuming Choose
 
 -- the instance applies
 pub formulas_fit : (basis : Items) (p q : Named) (s : Sequent) → HasType basis (nameless [] p) bool_type → HasType basis (nameless [] q) bool_type → inst_of basis ((p, var (boolean (codes "p"))) ∷ (q, var (boolean (codes "q"))) ∷ []) s ≡ Some (put (nameless [] p) (nameless [] q) s)
 formulas_fit basis p q s typed also =
     λ i. cond (is_type_at (typed i) bool_type && (is_type_at (also i) bool_type && true)) (Some (put (nameless [] p) (nameless [] q) s)) None
+
+-- ---- and r
+
+module _ (p q r : Nameless) (c : IsClosed 0 p) (d : IsClosed 0 q) (e : IsClosed 0 r) where
+  three : Nameless → Nameless
+  three t = term_subst ((p, boolean (codes "p")) ∷ (q, boolean (codes "q")) ∷ (r, boolean (codes "r")) ∷ []) 0 t
+
+  pub cases_are : put_three p q r (general DisjCases) ≡ sequent_of (only_hyp (disjunction p q)) (either p q r)
+  unfolding three
+  cases_are =
+      λ i.
+      sequent_of ((image_one three (disjunction (letter (codes "p")) (letter (codes "q"))) ∙ (λ j. set.insert no_hyps (strip (disjunction (shift_whole 0 0 p c j) (shift_whole 0 0 q d j))))) i)
+      (either (shift_whole 0 0 p c i) (shift_whole 0 0 q d i) (shift_whole 0 0 r e i))
+
+pub three_fit :
+    (basis : Items) (p q r : Named) (s : Sequent) → HasType basis (nameless [] p) bool_type → HasType basis (nameless [] q) bool_type → HasType basis (nameless [] r) bool_type →
+    inst_of basis ((p, var (boolean (codes "p"))) ∷ (q, var (boolean (codes "q"))) ∷ (r, var (boolean (codes "r"))) ∷ []) s ≡ Some (put_three (nameless [] p) (nameless [] q) (nameless [] r) s)
+three_fit basis p q r s typed also third =
+    λ i. cond (is_type_at (typed i) bool_type && (is_type_at (also i) bool_type && (is_type_at (third i) bool_type && true))) (Some (put_three (nameless [] p) (nameless [] q) (nameless [] r) s)) None
 
 -- ---- a predicate for P
 
@@ -131,12 +183,13 @@ module _ (a : TypeTree) (f : Nameless) (c : IsClosed 0 f) where
       ∙ (λ i. sequent_of (only_hyp (exists_in a (found i))) (universal (implied_by_all a f)))
 
   pub generalization_is :
-      put_predicate a f (general Gen) ≡ sequent_of (only_hyp (equation (fun_type a bool_type) f (constantly_true a))) (app (fixed (codes "!") (quantifier_type a)) f)
+      put_predicate a f (general Gen) ≡ sequent_of no_hyps (equivalence (equation (fun_type a bool_type) f (constantly_true a)) (app (fixed (codes "!") (quantifier_type a)) f))
   unfolding at at_type
   generalization_is =
-      (λ i. sequent_of (hyps_image at (image_one (types_inst ((a, codes "A") ∷ [])) (equation (fun_type var_a bool_type) predicate (constantly_true var_a)) i)) (app (fixed (codes "!") (quantifier_type a)) (found i)))
-      ∙ (λ i. sequent_of ((image_one at (equation (fun_type a bool_type) at_type (constantly_true a))) i) (app (fixed (codes "!") (quantifier_type a)) f))
-      ∙ (λ i. sequent_of (only_hyp (equation (fun_type a bool_type) (found i) (constantly_true a))) (app (fixed (codes "!") (quantifier_type a)) f))
+      (λ i.
+      sequent_of (hyps_image at (image_none (types_inst ((a, codes "A") ∷ [])) i))
+      (equivalence (equation (fun_type a bool_type) (found i) (constantly_true a)) (app (fixed (codes "!") (quantifier_type a)) (found i))))
+      ∙ (λ i. sequent_of (image_none at i) (equivalence (equation (fun_type a bool_type) f (constantly_true a)) (app (fixed (codes "!") (quantifier_type a)) f)))
 
 -- ---- a predicate for P, and a term for x
 

@@ -9,7 +9,7 @@ use Rattle.hol_formulas.specs.Formula.{truth, implication}
 use Rattle.hol_kernel.specs.Sequent.{Hyps, no_hyps, only_hyp}
 use Rattle.hol_equal.proofs.HypSets.{none_right, none_without}
 use Rattle.hol_derived.specs.Unfolded.{letter}
-use Rattle.hol_derived.proofs.Disjunctions.{apart}
+use Rattle.hol_derived.proofs.Disjunctions.{apart, one_removed}
 use Rattle.hol_derived.proofs.HypLaws.{is, has, same, in_union, in_rest, in_one}
 
 -- a hypothesis that is another term stays
@@ -75,3 +75,7 @@ swapped_ways false false = refl
 
 pub swapped : (hs ks : Hyps) → set.union hs ks ≡ set.union ks hs
 swapped hs ks = same _ _ (λ n. in_union hs ks n ∙ swapped_ways (has hs n) (has ks n) ∙ sym (in_union ks hs n))
+
+-- what each of two theorems concludes is all that the other assumes
+pub nothing_assumed : (p q : Nameless) → set.union (set.remove (only_hyp p) (strip p)) (set.remove (only_hyp q) (strip q)) ≡ no_hyps
+nothing_assumed p q = (λ i. set.union (one_removed p i) (one_removed q i)) ∙ none_right no_hyps

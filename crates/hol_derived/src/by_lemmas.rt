@@ -12,12 +12,14 @@ ghost use Rattle.hol_kernel.specs.Sequent.{only_hyp, sequent_of};
 ghost use Rattle.hol_kernel.specs.Theorem.{theorem_on, over};
 ghost use Rattle.hol_kernel.specs.Typing.{HasType, is_type};
 ghost use Rattle.hol_equal.specs.Applied.{lhs, rand, rhs};
+ghost use Rattle.hol_equal.specs.Rules.{prove_hyp_of};
+ghost use Rattle.hol_derived.specs.Lemmas.{lemma_at};
 ghost use Rattle.hol_derived.specs.Applied.{generalized, false_of, first_conjunct, second_conjunct};
 ghost use Rattle.hol_derived.specs.Rules.{conj_of, conjunct1_of, conjunct2_of, mp_of, disch_of, undisch_of, not_intro_of, disj1_of, disj2_of, contr_of, gen_of, eqt_intro_of};
 
 use crate::lemma::Lemma;
 use crate::lemmas::{Lemmas, with_predicate};
-use hol_equal::applied::{abs, assume, eq_mp, prove_hyp, sides_of};
+use hol_equal::applied::{abs, eq_mp, prove_hyp, sides_of};
 use hol_formulas::{dest_conj, dest_imp, dest_neg};
 use hol_kernel::Thm;
 use hol_terms::{Term, TermNode, Variable};
@@ -124,15 +126,16 @@ impl Lemmas {
         eq_mp(alloc, &equal, a)
     }
 
-    // From `q`, `p /\ q` under the hypothesis `p`.
+    // From `q`, `p /\ q`, under the hypothesis `p` where that is another formula.
     fn with_assumed(&mut self, alloc: Global, p: &Term, a: &Thm) -> Result<Thm, AllocError>
         requires one_basis { self.old ≡ a.now.basis }
         requires typed { HasType a.now.basis (nameless [] p.now) bool_type }
-        ensures gives { IfOk result (λ th. th ≡ theorem_on a.now.basis (sequent_of (set.union (only_hyp (nameless [] p.now)) a.now.sequent.hyps) (conjunction (nameless [] p.now) a.now.sequent.concl))) }
+        ensures gives { IfOk result (λ th. th ≡ theorem_on a.now.basis (prove_hyp_of a.now.sequent (lemma_at Lemma.Both (nameless [] p.now) a.now.sequent.concl))) }
         ensures kept { self.new ≡ self.old }
     {
-        let assumed = assume(alloc, a.basis(), p)?;
-        self.conj(alloc, &assumed, a)
+        a.well_typed();
+        let both = self.instance(alloc, Lemma::Both, p, a.concl())?;
+        prove_hyp(alloc, a, &both)
     }
 
     // From `q`, `p /\ q <=> p` without the hypothesis `p`.
@@ -230,6 +233,20 @@ impl Lemmas {
         self.follow(alloc, Lemma::EqtIntro, a.concl(), a.concl(), a)
     }
 
+    /// SYM of an equation of formulas: from `p <=> q`, `q <=> p`.
+    pub(crate) fn turned(&mut self, alloc: Global, a: &Thm) -> Result<Thm, AllocError>
+        requires one_basis { self.old ≡ a.now.basis }
+        requires is { a.now.sequent.concl ≡ equivalence (lhs a.now.sequent.concl) (rhs a.now.sequent.concl) }
+        ensures gives { IfOk result (λ th. th ≡ theorem_on a.now.basis (sequent_of a.now.sequent.hyps (equivalence (rhs a.now.sequent.concl) (lhs a.now.sequent.concl)))) }
+        ensures kept { self.new ≡ self.old }
+    {
+        a.well_typed();
+        let Some(sides) = sides_of(a) else {
+            unreachable!()
+        };
+        self.follow(alloc, Lemma::Turn, sides.left, sides.right, a)
+    }
+
     // From `p`, `(\v. p) = (\v. T)`.
     fn under_truth(&mut self, alloc: Global, v: &Variable, a: &Thm) -> Result<Thm, AllocError>
         requires one_basis { self.old ≡ a.now.basis }
@@ -256,7 +273,7 @@ impl Lemmas {
         };
         let general = self.get(alloc, Lemma::Gen)?;
         let own = with_predicate(alloc, &general, v.ty(), sides.left)?;
-        prove_hyp(alloc, constant, &own)
+        eq_mp(alloc, &own, constant)
     }
 
     /// GEN: from `p`, `!v. p`, for a variable of a type over the basis that is free in no hypothesis.

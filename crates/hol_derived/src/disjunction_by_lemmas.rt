@@ -14,6 +14,7 @@ ghost use Rattle.hol_derived.specs.Unfolded.{either};
 
 use crate::lemma::Lemma;
 use crate::lemmas::Lemmas;
+use hol_equal::applied::prove_hyp;
 use hol_formulas::dest_disj;
 use hol_kernel::Thm;
 use hol_terms::Term;
@@ -37,8 +38,9 @@ impl Lemmas {
         ensures gives { IfOk result (λ th. th ≡ theorem_on a.now.basis (sequent_of a.now.sequent.hyps (either (nameless [] p.now) (nameless [] q.now) (nameless [] r.now)))) }
         ensures kept { self.new ≡ self.old }
     {
-        let every = self.follow(alloc, Lemma::DisjCases, p, q, a)?;
-        self.specialize(alloc, r, &every)
+        let general = self.get(alloc, Lemma::DisjCases)?;
+        let own = self.with_three(alloc, &general, p, q, r)?;
+        prove_hyp(alloc, a, &own)
     }
 
     // From `(p ==> r) ==> t` and `r'` that is `r` up to bound names, `t` without the hypothesis `p` of the second.

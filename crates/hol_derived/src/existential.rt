@@ -2,20 +2,17 @@
 ghost use Rattle.std.specs.Prelude.{◌≡◌, IfOk, [], true};
 ghost use Rattle.std.specs.FinSet as set;
 ghost use Rattle.hol_types.specs.Fun.{fun_type};
-ghost use Rattle.hol_terms.specs.Nameless.{nameless, app};
-ghost use Rattle.hol_terms.specs.Alpha.{strip};
-ghost use Rattle.hol_subst.specs.Closing.{open_with};
+ghost use Rattle.hol_terms.specs.Nameless.{nameless};
 ghost use Rattle.hol_formulas.specs.Equation.{bool_type, equation};
 ghost use Rattle.hol_formulas.specs.Formula.{implication};
 ghost use Rattle.hol_kernel.specs.Sequent.{sequent_of};
 ghost use Rattle.hol_kernel.specs.Theorem.{theorem_on};
 ghost use Rattle.hol_kernel.specs.Typing.{HasType, is_type};
 ghost use Rattle.hol_equal.specs.Applied.{lhs, rhs};
-ghost use Rattle.hol_derived.specs.Applied.{abstraction_in, abstraction_term};
 ghost use Rattle.hol_derived.specs.Unfolded.{exists_unfolded, antecedents_equal};
 
 use crate::definitions::{definition_at, unfold_quantifier};
-use crate::equations::{contracted, eq_mp_sym, under_connective};
+use crate::equations::{eq_mp_sym, under_connective};
 use hol_equal::applied::ap_thm;
 use hol_formulas::{Postulate, bool_type};
 use hol_kernel::{Basis, Thm};
@@ -31,17 +28,6 @@ pub(crate) fn exists_at(alloc: Global, basis: &Basis, ty: &Ty, f: &Term) -> Resu
 {
     let general = definition_at(alloc, basis, Postulate::ExistsDef, ty)?;
     unfold_quantifier(alloc, &general, ty, f)
-}
-
-/// From `s` with `t` for `x`, `(\x. s) t`, where `f` is the abstraction.
-pub(crate) fn expanded(alloc: Global, a: &Thm, f: &Term, t: &Term) -> Result<Thm, AllocError>
-    requires function { nameless [] f.now ≡ abstraction_term (abstraction_in (nameless [] f.now)) }
-    requires typed { HasType a.now.basis (app (nameless [] f.now) (nameless [] t.now)) bool_type }
-    requires fits { strip (open_with (nameless [] t.now) 0 (abstraction_in (nameless [] f.now)).body) ≡ strip a.now.sequent.concl }
-    ensures { IfOk result (λ th. th ≡ theorem_on a.now.basis (sequent_of a.now.sequent.hyps (app (nameless [] f.now) (nameless [] t.now)))) }
-{
-    let equal = contracted(alloc, a.basis(), f, t)?;
-    eq_mp_sym(alloc, &equal, a)
 }
 
 // From `l = r`, `(l ==> t) = (r ==> t)`.

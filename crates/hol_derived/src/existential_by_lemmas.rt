@@ -17,10 +17,10 @@ ghost use Rattle.hol_derived.specs.Rules.{choose_left, exists_of, choose_of};
 ghost use Rattle.hol_derived.specs.Unfolded.{exists_in, all_imply, each_witness};
 
 use crate::equations::contracted;
-use crate::existential::{expanded, with_antecedent};
+use crate::existential::with_antecedent;
 use crate::lemma::Lemma;
 use crate::lemmas::{Lemmas, with_predicate, with_witness};
-use hol_equal::applied::{prove_hyp, sides_of};
+use hol_equal::applied::{eq_mp, prove_hyp, sides_of};
 use hol_formulas::{dest_exists, occurrence};
 use hol_kernel::Thm;
 use hol_terms::{Term, TermNode, Variable};
@@ -28,6 +28,20 @@ use hol_types::Ty;
 use std::alloc::{AllocError, Global};
 
 impl Lemmas {
+    // From `s` with `t` for `x`, `(\x. s) t`, where `f` is the abstraction.
+    fn expanded(&mut self, alloc: Global, a: &Thm, f: &Term, t: &Term) -> Result<Thm, AllocError>
+        requires one_basis { self.old ≡ a.now.basis }
+        requires function { nameless [] f.now ≡ abstraction_term (abstraction_in (nameless [] f.now)) }
+        requires typed { HasType a.now.basis (app (nameless [] f.now) (nameless [] t.now)) bool_type }
+        requires fits { strip (open_with (nameless [] t.now) 0 (abstraction_in (nameless [] f.now)).body) ≡ strip a.now.sequent.concl }
+        ensures gives { IfOk result (λ th. th ≡ theorem_on a.now.basis (sequent_of a.now.sequent.hyps (app (nameless [] f.now) (nameless [] t.now)))) }
+        ensures kept { self.new ≡ self.old }
+    {
+        let equal = contracted(alloc, a.basis(), f, t)?;
+        let back = self.turned(alloc, &equal)?;
+        eq_mp(alloc, &back, a)
+    }
+
     // From `p` with `t` for `x`, up to bound names, the formula `?x. p` that is handed in, well typed over the basis.
     fn introduce(&mut self, alloc: Global, e: &Term, t: &Term, a: &Thm) -> Result<Thm, AllocError>
         requires one_basis { self.old ≡ a.now.basis }
@@ -44,7 +58,7 @@ impl Lemmas {
         let f = Term::abstraction(alloc, x, p)?;
         let general = self.get(alloc, Lemma::Exists)?;
         let rule = with_witness(alloc, &general, x.ty(), &f, t)?;
-        let holds = expanded(alloc, a, &f, t)?;
+        let holds = self.expanded(alloc, a, &f, t)?;
         prove_hyp(alloc, &holds, &rule)
     }
 

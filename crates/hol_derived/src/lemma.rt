@@ -6,27 +6,27 @@ ghost use Rattle.hol_terms.specs.Nameless.{app, fixed};
 ghost use Rattle.hol_types.specs.Fun.{fun_type};
 ghost use Rattle.hol_formulas.specs.Constants.{var_a};
 ghost use Rattle.hol_formulas.specs.Equation.{bool_type, equation};
-ghost use Rattle.hol_formulas.specs.Formula.{conjunction, implication, equivalence, quantifier_type};
+ghost use Rattle.hol_formulas.specs.Formula.{truth, conjunction, disjunction, implication, equivalence, quantifier_type, universal};
 ghost use Rattle.hol_formulas.specs.Making.{mk_conj, mk_imp};
 ghost use Rattle.hol_formulas.specs.Prelude.{boolean};
 ghost use Rattle.hol_kernel.specs.Sequent.{no_hyps, only_hyp, sequent_of};
 ghost use Rattle.hol_kernel.specs.Theorem.{theorem_on};
 ghost use Rattle.hol_equal.specs.Applied.{lhs, rhs};
 ghost use Rattle.hol_derived.specs.Applied.{imp_unfolded, discharged, constantly_true};
-ghost use Rattle.hol_derived.specs.Lemmas.{general};
-ghost use Rattle.hol_derived.specs.Unfolded.{letter, predicate};
+ghost use Rattle.hol_derived.specs.Lemmas.{is_equation, general};
+ghost use Rattle.hol_derived.specs.Unfolded.{letter, predicate, either_for_all};
 
 use crate::conjunction;
 use crate::definitions::{forall_at, unfold};
 use crate::disjunction::{Side, assumed_letter, from_side, or_at_letters};
-use crate::equations::eq_mp_sym;
 use crate::falsity::{self, from_falsity, not_at};
 use crate::implication::{self, first_of, imp_at, with_first};
 use crate::letters::letter;
 use crate::truth::{eqt_elim, true_if_assumed};
+use crate::universal::spec;
 use crate::witness::{element_term, element_type, exists_at_property, from_witness, property_term};
 use hol_equal::applied::{assume, eq_mp, sides_of, sym};
-use hol_formulas::{bool_type, mk_conj, mk_imp, mk_neg};
+use hol_formulas::{bool_type, mk_conj, mk_eq, mk_imp, mk_neg};
 use hol_kernel::{Basis, Thm};
 use hol_terms::Term;
 use std::alloc::{AllocError, Global};
@@ -34,8 +34,12 @@ use std::alloc::{AllocError, Global};
 /// A general theorem, by the name of its rule.
 #[derive(Clone, Copy, PartialEq, Eq)]
 pub(crate) enum Lemma {
-    /// `{p} |- p <=> T`.
+    /// `|- p <=> (p <=> T)`.
     EqtIntro,
+    /// `|- (p <=> q) <=> (q <=> p)`.
+    Turn,
+    /// `{p, q} |- p /\ q`.
+    Both,
     /// `{q} |- p <=> p /\ q`.
     Conj,
     /// `{p /\ q} |- p`.
@@ -44,7 +48,7 @@ pub(crate) enum Lemma {
     Conjunct2,
     /// `{p} |- p ==> q <=> q`.
     Mp,
-    /// `{p /\ q <=> p} |- p ==> q`.
+    /// `|- (p /\ q <=> p) <=> (p ==> q)`.
     Disch,
     /// `{p} |- p \/ q`.
     Disj1,
@@ -52,13 +56,13 @@ pub(crate) enum Lemma {
     Disj2,
     /// `{F} |- p`.
     Contr,
-    /// `{p ==> F} |- ~p`.
+    /// `|- p ==> F <=> ~p`.
     NotIntro,
     /// `{~p} |- p <=> F`.
     EqfIntro,
-    /// `{P = (\x:A. T)} |- (!) P`.
+    /// `|- P = (\x:A. T) <=> (!) P`.
     Gen,
-    /// `{p \/ q} |- !r. (p ==> r) ==> (q ==> r) ==> r`.
+    /// `{p \/ q} |- (p ==> r) ==> (q ==> r) ==> r`.
     DisjCases,
     /// `{(!) P} |- P (x:A)`.
     Spec,
@@ -69,8 +73,9 @@ pub(crate) enum Lemma {
 }
 
 /// The general theorems, those that are used most first.
-pub(crate) const LEMMAS: [Lemma; 16] = [
+pub(crate) const LEMMAS: [Lemma; 18] = [
     Lemma::Mp,
+    Lemma::Both,
     Lemma::Conj,
     Lemma::Conjunct1,
     Lemma::Conjunct2,
@@ -79,6 +84,7 @@ pub(crate) const LEMMAS: [Lemma; 16] = [
     Lemma::EqtIntro,
     Lemma::Gen,
     Lemma::Exists,
+    Lemma::Turn,
     Lemma::Choose,
     Lemma::DisjCases,
     Lemma::Disj1,
@@ -88,12 +94,29 @@ pub(crate) const LEMMAS: [Lemma; 16] = [
     Lemma::EqfIntro,
 ];
 
+impl Lemma {
+    /// Whether the theorem assumes nothing, and says that what the rule is of and what it concludes are equivalent.
+    pub(crate) fn is_equation(self) -> bool
+        ensures { result ≡ is_equation self }
+    {
+        match self {
+            Lemma::EqtIntro | Lemma::Turn | Lemma::Disch | Lemma::NotIntro | Lemma::Gen => true,
+            Lemma::Both | Lemma::Conj | Lemma::Conjunct1 | Lemma::Conjunct2 => false,
+            Lemma::Mp | Lemma::Disj1 | Lemma::Disj2 | Lemma::DisjCases => false,
+            Lemma::Contr | Lemma::EqfIntro => false,
+            Lemma::Spec | Lemma::Exists | Lemma::Choose => false,
+        }
+    }
+}
+
 /// Derives a general theorem over the basis.
 pub(crate) fn derived(alloc: Global, basis: &Basis, which: Lemma) -> Result<Thm, AllocError>
     ensures { IfOk result (λ th. th ≡ theorem_on basis.now (general which)) }
 {
     match which {
         Lemma::EqtIntro => eqt_intro(alloc, basis),
+        Lemma::Turn => turn(alloc, basis),
+        Lemma::Both => both(alloc, basis),
         Lemma::Conj => conj(alloc, basis),
         Lemma::Conjunct1 => conjunct1(alloc, basis),
         Lemma::Conjunct2 => conjunct2(alloc, basis),
@@ -113,11 +136,60 @@ pub(crate) fn derived(alloc: Global, basis: &Basis, which: Lemma) -> Result<Thm,
 }
 
 // `{p} |- p <=> T`.
-fn eqt_intro(alloc: Global, basis: &Basis) -> Result<Thm, AllocError>
-    ensures { IfOk result (λ th. th ≡ theorem_on basis.now (general Lemma.EqtIntro)) }
+fn letter_is_true(alloc: Global, basis: &Basis) -> Result<Thm, AllocError>
+    ensures { IfOk result (λ th. th ≡ theorem_on basis.now (sequent_of (only_hyp (letter (codes "p"))) (equivalence (letter (codes "p")) truth))) }
 {
     let p = letter(alloc, "p")?;
     true_if_assumed(alloc, basis, &p)
+}
+
+// `{p <=> T} |- p`, from `p <=> T`.
+fn from_truth(alloc: Global, equal: &Thm) -> Result<Thm, AllocError>
+    requires is { equal.now.sequent.concl ≡ equivalence (lhs equal.now.sequent.concl) truth }
+    ensures { IfOk result (λ th. th ≡ theorem_on equal.now.basis (sequent_of (only_hyp equal.now.sequent.concl) (lhs equal.now.sequent.concl))) }
+{
+    equal.well_typed();
+    let assumed = assume(alloc, equal.basis(), equal.concl())?;
+    eqt_elim(alloc, &assumed)
+}
+
+// `|- p <=> (p <=> T)`.
+fn eqt_intro(alloc: Global, basis: &Basis) -> Result<Thm, AllocError>
+    ensures { IfOk result (λ th. th ≡ theorem_on basis.now (general Lemma.EqtIntro)) }
+{
+    let holds = letter_is_true(alloc, basis)?;
+    let back = from_truth(alloc, &holds)?;
+    Thm::deduct_antisym(alloc, &back, &holds)
+}
+
+// `{l <=> r} |- r <=> l`, of the variables of the names.
+fn turned_letters(alloc: Global, basis: &Basis, left: &str, right: &str) -> Result<Thm, AllocError>
+    ensures { IfOk result (λ th. th ≡ theorem_on basis.now (sequent_of (only_hyp (equivalence (letter left.now) (letter right.now))) (equivalence (letter right.now) (letter left.now)))) }
+{
+    let l = letter(alloc, left)?;
+    let r = letter(alloc, right)?;
+    let truth = bool_type(alloc)?;
+    let equal = mk_eq(alloc, &truth, &l, &r)?;
+    let assumed = assume(alloc, basis, &equal)?;
+    sym(alloc, &assumed)
+}
+
+// `|- (p <=> q) <=> (q <=> p)`.
+fn turn(alloc: Global, basis: &Basis) -> Result<Thm, AllocError>
+    ensures { IfOk result (λ th. th ≡ theorem_on basis.now (general Lemma.Turn)) }
+{
+    let forward = turned_letters(alloc, basis, "p", "q")?;
+    let back = turned_letters(alloc, basis, "q", "p")?;
+    Thm::deduct_antisym(alloc, &back, &forward)
+}
+
+// `{p, q} |- p /\ q`.
+fn both(alloc: Global, basis: &Basis) -> Result<Thm, AllocError>
+    ensures { IfOk result (λ th. th ≡ theorem_on basis.now (general Lemma.Both)) }
+{
+    let first = assumed_letter(alloc, basis, "p")?;
+    let second = assumed_letter(alloc, basis, "q")?;
+    conjunction::conj(alloc, &first, &second)
 }
 
 // `{q} |- p /\ q <=> p`.
@@ -217,25 +289,12 @@ fn imp_at_letters(alloc: Global, basis: &Basis) -> Result<Thm, AllocError>
     imp_at(alloc, basis, &p, &q)
 }
 
-// From `l <=> r`, `l` under the hypothesis `r`.
-fn assumed_right(alloc: Global, equal: &Thm) -> Result<Thm, AllocError>
-    requires is { equal.now.sequent ≡ sequent_of no_hyps (equivalence (lhs equal.now.sequent.concl) (rhs equal.now.sequent.concl)) }
-    ensures { IfOk result (λ th. th ≡ theorem_on equal.now.basis (sequent_of (only_hyp (rhs equal.now.sequent.concl)) (lhs equal.now.sequent.concl))) }
-{
-    equal.well_typed();
-    let Some(sides) = sides_of(equal) else {
-        unreachable!()
-    };
-    let assumed = assume(alloc, equal.basis(), sides.right)?;
-    eq_mp_sym(alloc, equal, &assumed)
-}
-
-// `{p /\ q <=> p} |- p ==> q`.
+// `|- (p /\ q <=> p) <=> (p ==> q)`.
 fn disch(alloc: Global, basis: &Basis) -> Result<Thm, AllocError>
     ensures { IfOk result (λ th. th ≡ theorem_on basis.now (general Lemma.Disch)) }
 {
     let equal = imp_at_letters(alloc, basis)?;
-    assumed_right(alloc, &equal)
+    sym(alloc, &equal)
 }
 
 // `{F} |- p`.
@@ -246,13 +305,13 @@ fn contr(alloc: Global, basis: &Basis) -> Result<Thm, AllocError>
     from_falsity(alloc, basis, &p)
 }
 
-// `{p ==> F} |- ~p`.
+// `|- p ==> F <=> ~p`.
 fn not_intro(alloc: Global, basis: &Basis) -> Result<Thm, AllocError>
     ensures { IfOk result (λ th. th ≡ theorem_on basis.now (general Lemma.NotIntro)) }
 {
     let p = letter(alloc, "p")?;
     let equal = not_at(alloc, basis, &p)?;
-    assumed_right(alloc, &equal)
+    sym(alloc, &equal)
 }
 
 // `{~p} |- p <=> F`.
@@ -265,14 +324,14 @@ fn eqf_intro(alloc: Global, basis: &Basis) -> Result<Thm, AllocError>
     falsity::eqf_intro(alloc, &assumed)
 }
 
-// `{P = (\x:A. T)} |- (!) P`.
+// `|- P = (\x:A. T) <=> (!) P`.
 fn generalization(alloc: Global, basis: &Basis) -> Result<Thm, AllocError>
     ensures { IfOk result (λ th. th ≡ theorem_on basis.now (general Lemma.Gen)) }
 {
     let ty = element_type(alloc)?;
     let p = property_term(alloc)?;
     let equal = forall_at(alloc, basis, &ty, &p)?;
-    assumed_right(alloc, &equal)
+    sym(alloc, &equal)
 }
 
 // From `l <=> r`, `r` under the hypothesis `l`.
@@ -289,11 +348,20 @@ fn assumed_left(alloc: Global, equal: &Thm) -> Result<Thm, AllocError>
 }
 
 // `{p \/ q} |- !r. (p ==> r) ==> (q ==> r) ==> r`.
-fn disj_cases(alloc: Global, basis: &Basis) -> Result<Thm, AllocError>
-    ensures { IfOk result (λ th. th ≡ theorem_on basis.now (general Lemma.DisjCases)) }
+fn every_conclusion(alloc: Global, basis: &Basis) -> Result<Thm, AllocError>
+    ensures { IfOk result (λ th. th ≡ theorem_on basis.now (sequent_of (only_hyp (disjunction (letter (codes "p")) (letter (codes "q")))) (universal (either_for_all (letter (codes "p")) (letter (codes "q")))))) }
 {
     let equal = or_at_letters(alloc, basis)?;
     assumed_left(alloc, &equal)
+}
+
+// `{p \/ q} |- (p ==> r) ==> (q ==> r) ==> r`.
+fn disj_cases(alloc: Global, basis: &Basis) -> Result<Thm, AllocError>
+    ensures { IfOk result (λ th. th ≡ theorem_on basis.now (general Lemma.DisjCases)) }
+{
+    let every = every_conclusion(alloc, basis)?;
+    let r = letter(alloc, "r")?;
+    spec(alloc, &r, &every)
 }
 
 // `{(?) P} |- !q. (!x:A. P x ==> q) ==> q`.

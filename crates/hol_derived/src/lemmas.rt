@@ -2,6 +2,7 @@
 ghost use Rattle.std.specs.Prelude.{◌≡◌, ◌∷◌, [], true, IfOk, IfSome, codes, Ok};
 ghost use Rattle.hol_terms.specs.Named.{var};
 ghost use Rattle.hol_types.specs.Fun.{fun_type};
+ghost use Rattle.hol_terms.specs.Alpha.{strip};
 ghost use Rattle.hol_terms.specs.Nameless.{nameless};
 ghost use Rattle.hol_formulas.specs.Equation.{bool_type};
 ghost use Rattle.hol_formulas.specs.Formula.{truth};
@@ -12,12 +13,12 @@ ghost use Rattle.hol_kernel.specs.Rules.{sequent_image};
 ghost use Rattle.hol_kernel.specs.Sequent.{no_hyps, only_hyp, sequent_of};
 ghost use Rattle.hol_kernel.specs.Theorem.{theorem_on};
 ghost use Rattle.hol_kernel.specs.Typing.{HasType, is_type};
-ghost use Rattle.hol_derived.specs.Lemmas.{hypothesis, conclusion, lemma_at, general, put, put_predicate, put_at};
+ghost use Rattle.hol_derived.specs.Lemmas.{hypothesis, assumed, conclusion, lemma_at, general, put, put_three, put_predicate, put_at};
 
 use crate::lemma::{LEMMAS, Lemma, derived};
 use crate::letters::letter;
 use crate::truth::truth;
-use hol_equal::applied::{inst_type, prove_hyp};
+use hol_equal::applied::{eq_mp, inst_type, prove_hyp};
 use hol_formulas::{bool_type, occurrence, variable};
 use hol_kernel::{Basis, Thm};
 use hol_terms::Term;
@@ -151,6 +152,39 @@ impl Lemmas {
         Thm::inst_typed(alloc, &pairs, a)
     }
 
+    // The formulas beside the variables `p`, `q` and `r`.
+    fn beside_three(
+        &self,
+        alloc: Global,
+        p: &Term,
+        q: &Term,
+        r: &Term,
+    ) -> Result<Vec<(Term, Term)>, AllocError>
+        ensures { IfOk result (λ pairs. pairs.items ≡ (p.now, var (boolean (codes "p"))) ∷ (q.now, var (boolean (codes "q"))) ∷ (r.now, var (boolean (codes "r"))) ∷ []) }
+    {
+        let mut pairs = self.beside_letters(alloc, p, q)?;
+        pairs.push((r.copy()?, letter(alloc, "r")?))?;
+        Ok(pairs)
+    }
+
+    /// INST: the theorem with the formulas for the variables `p`, `q` and `r`.
+    pub(crate) fn with_three(
+        &self,
+        alloc: Global,
+        a: &Thm,
+        p: &Term,
+        q: &Term,
+        r: &Term,
+    ) -> Result<Thm, AllocError>
+        requires first { HasType a.now.basis (nameless [] p.now) bool_type }
+        requires second { HasType a.now.basis (nameless [] q.now) bool_type }
+        requires third { HasType a.now.basis (nameless [] r.now) bool_type }
+        ensures { IfOk result (λ th. th ≡ theorem_on a.now.basis (put_three (nameless [] p.now) (nameless [] q.now) (nameless [] r.now) a.now.sequent)) }
+    {
+        let pairs = self.beside_three(alloc, p, q, r)?;
+        Thm::inst_typed(alloc, &pairs, a)
+    }
+
     /// An instance of the general theorem.
     pub(crate) fn instance(
         &mut self,
@@ -168,7 +202,7 @@ impl Lemmas {
         self.with_formulas(alloc, &own, p, q)
     }
 
-    /// What an instance of the general theorem concludes from the premise, which is what it assumes.
+    /// What an instance of the general theorem concludes from the premise, which is what it assumes, or is an equation of.
     pub(crate) fn follow(
         &mut self,
         alloc: Global,
@@ -180,11 +214,15 @@ impl Lemmas {
         requires over { self.old ≡ premise.now.basis }
         requires first { HasType self.old (nameless [] p.now) bool_type }
         requires second { HasType self.old (nameless [] q.now) bool_type }
-        requires proved { only_hyp (hypothesis which (nameless [] p.now) (nameless [] q.now)) ≡ only_hyp premise.now.sequent.concl }
+        requires assumes { assumed which (nameless [] p.now) (nameless [] q.now) ≡ only_hyp (hypothesis which (nameless [] p.now) (nameless [] q.now)) }
+        requires proved { strip (hypothesis which (nameless [] p.now) (nameless [] q.now)) ≡ strip premise.now.sequent.concl }
         ensures is { IfOk result (λ th. th ≡ theorem_on self.old (sequent_of premise.now.sequent.hyps (conclusion which (nameless [] p.now) (nameless [] q.now)))) }
         ensures kept { self.new ≡ self.old }
     {
         let own = self.instance(alloc, which, p, q)?;
+        if which.is_equation() {
+            return eq_mp(alloc, &own, premise);
+        }
         prove_hyp(alloc, premise, &own)
     }
 }

@@ -1,8 +1,10 @@
 -- The order of types is total, and ties at equal types alone.
 use Rattle.std.proofs.Common.{◌≡◌, ◌≢◌, ℕ, ◌+◌, min, List, [], ◌∷◌, refl, sym, ap, ◌∙◌, subst, arith, Bool, true, false, ◌&&◌}
+use Rattle.std.specs.Prelude.{bytes_eq, codes}
 use Rattle.std.specs.Ordering.{nat_cmp, ordering_then, is_eq}
 use Rattle.std.specs.Bool.{Decides}
 use Rattle.std.specs.Cmp.{IsTotalOrder, on_total, Equal-is, nat_cmp_is}
+use Rattle.std.proofs.lemmas.Bool.{and_parts}
 use Rattle.std.proofs.lemmas.Bool.Decides.{nat_tests}
 use Rattle.std.specs.Cmp.Lexicographic.{slice_cmp, nat_list_cmp_total}
 use Rattle.std.specs.declared.cmp.Ordering.{Ordering}
@@ -10,6 +12,7 @@ use Rattle.std.specs.declared.cmp.Ordering.TheVariants.{Less, Equal, Greater}
 use Rattle.std.proofs.lemmas.Map.Text.{is_eq-slice_cmp}
 use Rattle.std.proofs.lemmas.Slice.Eq.{bytes_eq-Decides}
 use Rattle.hol_types.specs.Tree.{TypeTree, TypeList, TyVar, TyApp, no_types, more_types, type_size}
+use Rattle.hol_types.specs.Basic.{is_bool}
 use Rattle.hol_types.specs.Order.{name_cmp, type_cmp, types_cmp}
 
 pub then_equal : (r s : Ordering) → ordering_then r s ≡ Equal → (r ≡ Equal) × (s ≡ Equal)
@@ -64,6 +67,15 @@ type_cmp_decides s t = (λ e. type_equal s t ((Equal-is (type_cmp s t)).0 e), λ
 -- what the order answers of one type twice
 pub type_cmp_same : (s t : TypeTree) → s ≡ t → Equal ≡ type_cmp s t
 type_cmp_same s t e = sym (type_same s) ∙ ap (type_cmp s) e
+
+-- there is one type of truth values
+truth_is : (t : TypeTree) → is_bool t ≡ true → t ≡ TyApp (codes "bool") no_types
+truth_is (TyVar a) e = absurd (cc)
+truth_is (TyApp c no_types) e = λ i. TyApp ((bytes_eq-Decides c (codes "bool")).0 (and_parts (bytes_eq c (codes "bool")) true e).0 i) no_types
+truth_is (TyApp c (more_types t ts)) e = let both : false ≡ true = (and_parts (bytes_eq c (codes "bool")) false e).1 in absurd (cc)
+
+pub truths_same : (s t : TypeTree) → is_bool s ≡ true → is_bool t ≡ true → Equal ≡ type_cmp s t
+truths_same s t e f = type_cmp_same s t (truth_is s e ∙ sym (truth_is t f))
 
 -- equal types have one size
 pub sizes_differ : (s t : TypeTree) → min (type_size s) 20001 ≢ min (type_size t) 20001 → is_eq (type_cmp s t) ≡ false

@@ -280,12 +280,15 @@ impl Ty {
     /// The order of types: variables before applications, then by the bytes of the name, then by the arguments from the left.
     ///
     /// It is total (`laws::order_is_total`). Takes no memory. Both are walked up to the first difference, but for parts where both have
-    /// one node.
-    #[tactic(auto, using(crate::proofs::Steps::ends_less, crate::proofs::OrderLaws::type_cmp_same))]
+    /// one node or are `bool`.
+    #[tactic(auto, using(crate::proofs::Steps::ends_less, crate::proofs::OrderLaws::type_cmp_same, crate::proofs::OrderLaws::truths_same))]
     pub fn order(&self, other: &Ty) -> Ordering
         ensures { result ≡ type_cmp self.now other.now }
     {
         if self.same_node(other) {
+            return Ordering::Equal;
+        }
+        if self.is_bool() && other.is_bool() {
             return Ordering::Equal;
         }
         match (&self.shared.node, &other.shared.node) {

@@ -2,10 +2,11 @@ use Rattle.std.proofs.Common.{◌≡◌, ap, ◌∙◌, [], refl}
 use Rattle.hol_terms.specs.Nameless.{nameless}
 use Rattle.hol_formulas.specs.Equation.{bool_type}
 use Rattle.hol_formulas.specs.Formula.{conjunction, equivalence}
-use Rattle.hol_kernel.specs.Sequent.{only_hyp, sequent_of, Hyps}
+use Rattle.hol_kernel.specs.Sequent.{sequent_of, Hyps}
 use Rattle.hol_kernel.specs.Theorem.{Theorem, theorem_on}
 use Rattle.hol_equal.proofs.Outcomes.{became}
 use Rattle.hol_equal.specs.Applied as made
+use Rattle.hol_terms.specs.Alpha.{strip}
 use Rattle.hol_derived.proofs.Chains.{eq_mp_fits, followed}
 use Rattle.hol_derived.proofs.Instances.{typed_at}
 use Rattle.hol_derived.proofs.LemmaHypotheses.{swapped}
@@ -19,7 +20,8 @@ follow-requires c =
       over = one ∙ c.requires.same_basis;
       first = typed_at c.args.self.now c.args.a.now.basis (nameless [] c.concl.result.now) c.args.a.now.sequent.concl one c.concl.ensures.concl c.well_typed.ensures.conclusion;
       second = typed_at c.args.self.now c.args.b.now.basis (nameless [] c.concl-2.result.now) c.args.b.now.sequent.concl (one ∙ c.requires.same_basis) c.concl-2.ensures.concl c.well_typed-2.ensures.conclusion;
-      proved = ap only_hyp c.concl-2.ensures.concl;
+      assumes = refl;
+      proved = ap strip c.concl-2.ensures.concl;
     }
 
 pub eq_mp-requires : goal.eq_mp-requires

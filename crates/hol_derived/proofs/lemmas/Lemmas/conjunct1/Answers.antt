@@ -2,10 +2,11 @@ use Rattle.std.proofs.Common.{◌≡◌, ap, sym, ◌∙◌, subst, [], Some, re
 use Rattle.hol_terms.specs.Nameless.{Nameless, nameless}
 use Rattle.hol_formulas.specs.Equation.{bool_type}
 use Rattle.hol_formulas.specs.Formula.{conjunction, connective_type, dest_conj}
-use Rattle.hol_kernel.specs.Sequent.{only_hyp, sequent_of}
+use Rattle.hol_kernel.specs.Sequent.{sequent_of}
 use Rattle.hol_kernel.specs.Theorem.{theorem_on, over}
 use Rattle.hol_kernel.specs.Typing.{HasType}
 use Rattle.hol_formulas.proofs.FormulaLaws.{dest_binary_is}
+use Rattle.hol_terms.specs.Alpha.{strip}
 use Rattle.hol_derived.proofs.Connected.{operands_typed}
 use Rattle.hol_derived.proofs.Instances.{typed_at, refuted, gives_by}
 use Rattle.std.specs.Option.{option_map}
@@ -30,7 +31,8 @@ follow-requires c =
       over = c.requires.one_basis;
       first = typed_at c.args.self.now A p p c.requires.one_basis refl typed.0;
       second = typed_at c.args.self.now A q q c.requires.one_basis refl typed.1;
-      proved = ap only_hyp (sym is);
+      assumes = refl;
+      proved = ap strip (sym is);
     }
 
 pub returns-clause-gives : goal.returns-clause-gives

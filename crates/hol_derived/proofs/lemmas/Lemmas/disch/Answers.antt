@@ -2,8 +2,9 @@ use Rattle.std.proofs.Common.{◌≡◌, ap, sym, ◌∙◌, [], refl, true}
 use Rattle.hol_terms.specs.Nameless.{nameless}
 use Rattle.hol_formulas.specs.Equation.{bool_type}
 use Rattle.hol_formulas.specs.Formula.{conjunction, implication, equivalence}
-use Rattle.hol_kernel.specs.Sequent.{only_hyp, sequent_of}
+use Rattle.hol_kernel.specs.Sequent.{sequent_of}
 use Rattle.hol_kernel.specs.Theorem.{Theorem, theorem_on, over}
+use Rattle.hol_terms.specs.Alpha.{strip}
 use Rattle.hol_derived.proofs.Instances.{typed_at, holds, gives_by}
 use Rattle.hol_kernel.specs.Typing.{has_type}
 use Rattle.hol_kernel.proofs.Declared.{has_type_is}
@@ -32,7 +33,8 @@ follow-requires c =
       over = own ∙ sym (ap (λ (th : Theorem). th.basis) c.in_ok-equal.ensures.gives);
       first = typed_at c.with_first.new.self A p p own refl (has_type_is A p bool_type has);
       second = typed_at c.with_first.new.self A (nameless [] c.concl.result.now) a.concl own c.concl.ensures.concl c.well_typed.ensures.conclusion;
-      proved = (λ i. only_hyp (equivalence (conjunction p (c.concl.ensures.concl i)) p)) ∙ sym (ap (λ (th : Theorem). only_hyp th.sequent.concl) c.in_ok-equal.ensures.gives);
+      assumes = refl;
+      proved = (λ i. strip (equivalence (conjunction p (c.concl.ensures.concl i)) p)) ∙ sym (ap (λ (th : Theorem). strip th.sequent.concl) c.in_ok-equal.ensures.gives);
     }
 
 pub returns-clause-gives : goal.returns-clause-gives

@@ -2,9 +2,10 @@ use Rattle.std.proofs.Common.{◌≡◌, ap, [], refl, true}
 use Rattle.hol_terms.specs.Nameless.{nameless}
 use Rattle.hol_formulas.specs.Equation.{bool_type}
 use Rattle.hol_formulas.specs.Formula.{disjunction}
-use Rattle.hol_kernel.specs.Sequent.{only_hyp, sequent_of}
+use Rattle.hol_kernel.specs.Sequent.{sequent_of}
 use Rattle.hol_kernel.specs.Theorem.{theorem_on, over}
 use Rattle.hol_kernel.specs.Typing.{HasType}
+use Rattle.hol_terms.specs.Alpha.{strip}
 use Rattle.hol_derived.proofs.Instances.{typed_at, holds, gives_by}
 use Rattle.hol_kernel.specs.Typing.{has_type}
 use Rattle.hol_kernel.proofs.Declared.{has_type_is}
@@ -21,7 +22,7 @@ follow-requires c =
     let has : has_type A x bool_type ≡ true = holds (over A (disj2_of A x a)) (has_type A x bool_type) c.requires.applies (λ e. ap (over A) (disj2_none A a x e)) in
     let given : HasType c.args.self.now x bool_type = typed_at c.args.self.now A x x c.requires.one_basis refl (has_type_is A x bool_type has) in
     let own : HasType c.args.self.now (nameless [] c.concl.result.now) bool_type = typed_at c.args.self.now A (nameless [] c.concl.result.now) a.concl c.requires.one_basis c.concl.ensures.concl c.well_typed.ensures.conclusion in
-    record { over = c.requires.one_basis; first = given; second = own; proved = ap only_hyp c.concl.ensures.concl }
+    record { over = c.requires.one_basis; first = given; second = own; assumes = refl; proved = ap strip c.concl.ensures.concl }
 
 pub returns-clause-gives : goal.returns-clause-gives
 returns-clause-gives c =

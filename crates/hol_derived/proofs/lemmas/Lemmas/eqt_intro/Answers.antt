@@ -1,10 +1,11 @@
-use Rattle.std.proofs.Common.{ap, []}
+use Rattle.std.proofs.Common.{ap, [], refl}
 use Rattle.hol_terms.specs.Nameless.{nameless}
 use Rattle.hol_formulas.specs.Formula.{truth, equivalence}
-use Rattle.hol_kernel.specs.Sequent.{only_hyp, sequent_of}
+use Rattle.hol_kernel.specs.Sequent.{sequent_of}
 use Rattle.hol_kernel.specs.Theorem.{theorem_on}
 use Rattle.hol_equal.proofs.Outcomes.{became}
 use Rattle.hol_derived.specs.Rules.{eqt_intro_of}
+use Rattle.hol_terms.specs.Alpha.{strip}
 use Rattle.hol_derived.proofs.Instances.{typed_at}
 use Rattle.hol_derived.proofs.lemmas.Lemmas.eqt_intro.Goals as goal
 
@@ -16,7 +17,8 @@ follow-requires c =
       over = c.requires.one_basis;
       first = typed_at c.args.self.now A (nameless [] c.concl.result.now) a.concl c.requires.one_basis c.concl.ensures.concl c.well_typed.ensures.conclusion;
       second = typed_at c.args.self.now A (nameless [] c.concl-2.result.now) a.concl c.requires.one_basis c.concl-2.ensures.concl c.well_typed.ensures.conclusion;
-      proved = ap only_hyp c.concl.ensures.concl;
+      assumes = refl;
+      proved = ap strip c.concl.ensures.concl;
     }
 
 pub returns-clause-gives : goal.returns-clause-gives

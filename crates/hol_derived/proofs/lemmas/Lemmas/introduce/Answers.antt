@@ -60,7 +60,7 @@ expanded-requires c =
     let function : HasType B own (fun_type v.1 bool_type) = predicate_typed B (codes "?") v.1 bool_type own (subst (λ (u : Nameless). HasType B u bool_type) whole c.requires.stands) in
     let argument : HasType B t v.1 = subst (λ (d : TypeTree). HasType B t d) domain c.requires.typed in
     let f : nameless [] c.in_ok-f.f ≡ own = ap (nameless []) c.in_ok-f.ensures in
-    rw f record { function = refl; typed = applied_typed B v.1 bool_type own t function argument; fits = subst (λ (u : Nameless). strip (open_with t 0 (abstraction_in (rand u)).body) ≡ strip s.concl) whole c.requires.fits }
+    rw f record { one_basis = c.in_ok-general.ensures.kept ∙ c.requires.one_basis; function = refl; typed = applied_typed B v.1 bool_type own t function argument; fits = subst (λ (u : Nameless). strip (open_with t 0 (abstraction_in (rand u)).body) ≡ strip s.concl) whole c.requires.fits }
 
 pub prove_hyp-requires : goal.prove_hyp-requires
 prove_hyp-requires c =
@@ -73,7 +73,7 @@ prove_hyp-requires c =
     let closed : IsClosed 0 own = subst (λ (u : Nameless). IsClosed 0 u) f (closed_named c.in_ok-f.f) in
     let given : c.in_ok-general.general ≡ theorem_on B (general Exists) = c.in_ok-general.ensures.is ∙ ap (λ (k : Items). theorem_on k (general Exists)) c.requires.one_basis in
     let rule : c.in_ok-rule.rule ≡ theorem_on B (sequent_of (only_hyp (app own t)) (exists_in v.1 own)) = c.in_ok-rule.ensures ∙ (λ i. theorem_on (given i).basis (put_at (c.ty.ensures i) (f i) t (given i).sequent)) ∙ ap (theorem_on B) (existence_is v.1 own t closed (closed_named c.args.t.now)) in
-    let holds : c.in_ok-holds.holds ≡ theorem_on B (sequent_of s.hyps (app own t)) = c.in_ok-holds.ensures ∙ (λ i. theorem_on B (sequent_of s.hyps (app (f i) t))) in
+    let holds : c.in_ok-holds.holds ≡ theorem_on B (sequent_of s.hyps (app own t)) = c.in_ok-holds.ensures.gives ∙ (λ i. theorem_on B (sequent_of s.hyps (app (f i) t))) in
     record { one_basis = one_basis B c.in_ok-holds.holds c.in_ok-rule.rule (sequent_of s.hyps (app own t)) (sequent_of (only_hyp (app own t)) (exists_in v.1 own)) holds rule }
 
 pub returns-clause-gives : goal.returns-clause-gives
@@ -87,7 +87,7 @@ returns-clause-gives c =
     let closed : IsClosed 0 own = subst (λ (u : Nameless). IsClosed 0 u) f (closed_named c.in_ok-f.f) in
     let given : c.in_ok-general.general ≡ theorem_on B (general Exists) = c.in_ok-general.ensures.is ∙ ap (λ (k : Items). theorem_on k (general Exists)) c.requires.one_basis in
     let rule : c.in_ok-rule.rule ≡ theorem_on B (sequent_of (only_hyp (app own t)) (exists_in v.1 own)) = c.in_ok-rule.ensures ∙ (λ i. theorem_on (given i).basis (put_at (c.ty.ensures i) (f i) t (given i).sequent)) ∙ ap (theorem_on B) (existence_is v.1 own t closed (closed_named c.args.t.now)) in
-    let holds : c.in_ok-holds.holds ≡ theorem_on B (sequent_of s.hyps (app own t)) = c.in_ok-holds.ensures ∙ (λ i. theorem_on B (sequent_of s.hyps (app (f i) t))) in
+    let holds : c.in_ok-holds.holds ≡ theorem_on B (sequent_of s.hyps (app own t)) = c.in_ok-holds.ensures.gives ∙ (λ i. theorem_on B (sequent_of s.hyps (app (f i) t))) in
     let e = nameless [] c.args.e.now in
     let whole : e ≡ exists_in v.1 own = dest_quantifier_is (codes "?") e (record { base = base_of v.0; domain = v.1; body = nameless (v ∷ []) c.in-Some.p.now }) c.in-Some.ensures.parts in
     became c.prove_hyp.result (theorem_on c.in_ok-holds.holds.basis (prove_hyp_of c.in_ok-holds.holds.sequent c.in_ok-rule.rule.sequent)) (theorem_on B (sequent_of s.hyps e)) c.prove_hyp.ensures

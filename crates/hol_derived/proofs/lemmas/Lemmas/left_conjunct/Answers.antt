@@ -3,12 +3,13 @@ use Rattle.hol_terms.specs.Nameless.{Nameless, nameless}
 use Rattle.hol_formulas.specs.Equation.{bool_type}
 use Rattle.hol_formulas.specs.Formula.{conjunction, connective_type, dest_conj}
 use Rattle.hol_formulas.proofs.FormulaLaws.{dest_binary_is}
-use Rattle.hol_kernel.specs.Sequent.{only_hyp, sequent_of}
+use Rattle.hol_kernel.specs.Sequent.{sequent_of}
 use Rattle.hol_kernel.specs.Theorem.{theorem_on}
 use Rattle.hol_kernel.specs.Typing.{HasType}
 use Rattle.hol_equal.proofs.Outcomes.{became}
 use Rattle.hol_equal.specs.Applied.{lhs, rhs}
 use Rattle.hol_derived.specs.Applied.{first_conjunct}
+use Rattle.hol_terms.specs.Alpha.{strip}
 use Rattle.hol_derived.proofs.Connected.{operands_typed, operands_found}
 use Rattle.hol_derived.proofs.Instances.{typed_at}
 use Rattle.hol_derived.proofs.lemmas.Lemmas.left_conjunct.Goals as goal
@@ -31,7 +32,8 @@ follow-requires c =
       over = c.requires.one_basis;
       first = typed_at c.args.self.now A p p c.requires.one_basis refl typed.0;
       second = typed_at c.args.self.now A q q c.requires.one_basis refl typed.1;
-      proved = ap only_hyp (sym is);
+      assumes = refl;
+      proved = ap strip (sym is);
     }
 
 pub returns-clause-gives : goal.returns-clause-gives

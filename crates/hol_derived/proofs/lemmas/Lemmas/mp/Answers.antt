@@ -4,7 +4,7 @@ use Rattle.hol_terms.specs.Nameless.{Nameless, nameless}
 use Rattle.hol_terms.specs.Alpha.{strip, alpha_eq}
 use Rattle.hol_formulas.specs.Equation.{bool_type}
 use Rattle.hol_formulas.specs.Formula.{implication, equivalence, connective_type, dest_imp}
-use Rattle.hol_kernel.specs.Sequent.{no_hyps, sequent_of, Hyps}
+use Rattle.hol_kernel.specs.Sequent.{sequent_of, Hyps}
 use Rattle.hol_kernel.specs.Theorem.{Theorem, theorem_on, over}
 use Rattle.hol_kernel.specs.Typing.{HasType}
 use Rattle.hol_formulas.proofs.FormulaLaws.{dest_binary_is}
@@ -41,7 +41,8 @@ follow-requires c =
       over = c.requires.one_basis ∙ c.requires.same_basis;
       first = typed_at c.args.self.now A p p c.requires.one_basis refl typed.0;
       second = typed_at c.args.self.now A q q c.requires.one_basis refl typed.1;
-      proved = ap (λ k. set.insert no_hyps k) ((alpha_eq_decides p b.concl).0 same);
+      assumes = refl;
+      proved = (alpha_eq_decides p b.concl).0 same;
     }
 
 pub eq_mp-requires : goal.eq_mp-requires

@@ -2,11 +2,12 @@ use Rattle.std.proofs.Common.{◌≡◌, ap, sym, ◌∙◌, subst, [], Some, re
 use Rattle.hol_terms.specs.Nameless.{Nameless, nameless}
 use Rattle.hol_formulas.specs.Equation.{bool_type}
 use Rattle.hol_formulas.specs.Formula.{falsity, negation, implication, connective_type, dest_imp}
-use Rattle.hol_kernel.specs.Sequent.{only_hyp, sequent_of}
+use Rattle.hol_kernel.specs.Sequent.{sequent_of}
 use Rattle.hol_kernel.specs.Theorem.{theorem_on, over}
 use Rattle.hol_kernel.specs.Typing.{HasType}
 use Rattle.hol_formulas.proofs.FormulaLaws.{dest_binary_is}
 use Rattle.hol_equal.specs.Applied.{lhs}
+use Rattle.hol_terms.specs.Alpha.{strip}
 use Rattle.hol_derived.proofs.Connected.{operands_typed}
 use Rattle.hol_derived.proofs.Instances.{typed_at, holds, refuted, gives_by}
 use Rattle.hol_formulas.specs.Formula.{is_falsity}
@@ -33,7 +34,7 @@ follow-requires c =
     let refutes : a.concl ≡ implication p falsity = is ∙ ap (implication p) (is_false q false) in
     let typed : HasType A p bool_type × HasType A q bool_type = operands_typed A (codes "==>") p q bool_type (subst (λ (u : Nameless). HasType A u bool_type) is c.well_typed.ensures.conclusion) in
     let one : HasType c.args.self.now p bool_type = typed_at c.args.self.now A p p c.requires.one_basis refl typed.0 in
-    record { over = c.requires.one_basis; first = one; second = one; proved = ap only_hyp (sym refutes) }
+    record { over = c.requires.one_basis; first = one; second = one; assumes = refl; proved = ap strip (sym refutes) }
 
 pub returns-clause-gives : goal.returns-clause-gives
 returns-clause-gives c =

@@ -9,7 +9,10 @@ use Rattle.hol_equal.proofs.Outcomes.{became}
 use Rattle.hol_derived.proofs.Chains.{one_basis}
 use Rattle.hol_derived.proofs.Instances.{typed_at}
 use Rattle.hol_kernel.specs.Rules.{deduct_antisym_of}
-use Rattle.hol_derived.proofs.HypLaws.{discharged}
+use Rattle.hol_equal.specs.Rules.{prove_hyp_of}
+use Rattle.hol_derived.specs.Lemmas.{lemma_at}
+use Rattle.hol_derived.specs.declared.lemma.Lemma.TheVariants.{Both}
+use Rattle.hol_derived.proofs.HypLaws.{joined}
 use Rattle.hol_derived.proofs.lemmas.Lemmas.with_first.Goals as goal
 
 pub with_assumed-requires : goal.with_assumed-requires
@@ -29,7 +32,7 @@ deduct_antisym-requires c =
     let p = nameless [] c.args.p.now in
     let two = conjunction p a.concl in
     let first : c.in_ok-first.first ≡ theorem_on A (sequent_of (only_hyp two) p) = c.in_ok-first.ensures.is ∙ (λ i. theorem_on ((c.in_ok-both.ensures.kept ∙ c.requires.one_basis) i) (sequent_of (only_hyp (conjunction p (c.concl.ensures.concl i))) p)) in
-    record { one_basis = one_basis A c.in_ok-both.both c.in_ok-first.first (sequent_of (set.union (only_hyp p) a.hyps) two) (sequent_of (only_hyp two) p) c.in_ok-both.ensures.gives first }
+    record { one_basis = one_basis A c.in_ok-both.both c.in_ok-first.first (prove_hyp_of a (lemma_at Both p a.concl)) (sequent_of (only_hyp two) p) c.in_ok-both.ensures.gives first }
 
 pub returns-clause-gives : goal.returns-clause-gives
 returns-clause-gives c =
@@ -40,4 +43,4 @@ returns-clause-gives c =
     let first : c.in_ok-first.first ≡ theorem_on A (sequent_of (only_hyp two) p) = c.in_ok-first.ensures.is ∙ (λ i. theorem_on ((c.in_ok-both.ensures.kept ∙ c.requires.one_basis) i) (sequent_of (only_hyp (conjunction p (c.concl.ensures.concl i))) p)) in
     let body = equivalence two p in
     became c.deduct_antisym.result (theorem_on c.in_ok-both.both.basis (deduct_antisym_of c.in_ok-both.both.sequent c.in_ok-first.first.sequent)) (theorem_on A (sequent_of (set.remove a.hyps (strip p)) body)) c.deduct_antisym.ensures
-    ((λ i. theorem_on (c.in_ok-both.ensures.gives i).basis (deduct_antisym_of (c.in_ok-both.ensures.gives i).sequent (first i).sequent)) ∙ ap (λ (hs : Hyps). theorem_on A (sequent_of hs body)) (discharged p two a.hyps))
+    ((λ i. theorem_on (c.in_ok-both.ensures.gives i).basis (deduct_antisym_of (c.in_ok-both.ensures.gives i).sequent (first i).sequent)) ∙ ap (λ (hs : Hyps). theorem_on A (sequent_of hs body)) (joined p a.concl two a.hyps))
