@@ -1,11 +1,10 @@
 -- How many primes a name has after a base.
-use Rattle.std.proofs.Common.{◌≡◌, ◌≢◌, ℕ, zero, suc, ◌+◌, List, [], ◌∷◌, ◌++◌, length, take, drop, get_or, refl, ap, sym, ◌∙◌, append_assoc, append-nil, inl, inr, Bool, true, false, ◌==◌, bytes_eq, nat_eq, None, Some, Bor, arith}
-use Rattle.std.proofs.Math.Seq.{take-append_seam}
+use Rattle.std.proofs.Common.{◌≡◌, ◌≢◌, ℕ, zero, suc, ◌+◌, List, [], ◌∷◌, ◌++◌, length, drop, get_or, refl, ap, sym, ◌∙◌, append_assoc, append-nil, inl, inr, Bool, true, false, ◌==◌, bytes_eq, None, MatchBool, Decides, arith}
 use Rattle.std.proofs.lemmas.Bool.{false_from_ne_true}
 use Rattle.std.proofs.lemmas.Bool.Decides.{eqb_tells, Decides-eqb}
 use Rattle.std.proofs.lemmas.List.{append_cancel_left}
-use Rattle.std.proofs.lemmas.Slice.Eq.{bytes_eq-Decides, strip_prefix_is}
-use Rattle.std.specs.Cmp.Lexicographic.{pointwise}
+use Rattle.std.proofs.lemmas.Slice.Eq.{bytes_eq-Decides}
+use Rattle.std.specs.Str.Pattern.{HasPrefixMatch, FindsTextPrefix}
 use Rattle.hol_terms.specs.Primes.{with_primes}
 use Rattle.hol_terms.proofs.Primes.{primes_length}
 
@@ -24,43 +23,49 @@ prime_before (suc k) = ap (λ x. x ++ 39 ∷ []) (prime_before k)
 so_many : (k : ℕ) → length (with_primes k []) ≡ k
 so_many k = let h = primes_length k [] in omega (arith, h)
 
--- ---- bytes of which the first is a prime, and each other is as the one before it
+-- ---- a text of which the first byte is a prime, and each other is as the one before it
 
-all_as_first : (x : ℕ) (rest : List ℕ) → x ≡ 39 → rest ≡ take (length rest) (x ∷ rest) → rest ≡ with_primes (length rest) []
-all_as_first x [] p e = refl
-all_as_first x (y ∷ ys) p e =
-    let next : y ≡ 39 = ap (λ l. get_or l 0 0) e ∙ p in
-    let more : ys ≡ with_primes (length ys) [] = all_as_first y ys next (ap (drop 1) e) in
-    (λ i. next i ∷ more i) ∙ sym (prime_before (length ys))
+all_as_first : (x : ℕ) (rest more : List ℕ) → x ≡ 39 → x ∷ rest ≡ rest ++ more → rest ≡ with_primes (length rest) []
+all_as_first x [] more p e = refl
+all_as_first x (y ∷ ys) more p e =
+    let next : y ≡ 39 = ap (λ l. get_or l 0 0) (sym e) ∙ p in
+    let ends : ys ≡ with_primes (length ys) [] = all_as_first y ys more next (ap (drop 1) e) in
+    (λ i. next i ∷ ends i) ∙ sym (prime_before (length ys))
 
-module _ (bytes rest : List ℕ) (x : ℕ) (is : bytes ≡ x ∷ rest) where
-  pub primes_by_first : x ≡ 39 → rest ≡ take (length rest) bytes → bytes ≡ with_primes (length bytes) []
-  primes_by_first p e =
-      let more : rest ≡ with_primes (length rest) [] = all_as_first x rest p (e ∙ ap (take (length rest)) is) in
-      is ∙ (λ i. p i ∷ more i) ∙ sym (prime_before (length rest)) ∙ ap (λ l. with_primes (length l) []) (sym is)
+module _ (text rest : List ℕ) (is : text ≡ 39 ∷ rest) where
+  begun : (more : List ℕ) → text ≡ rest ++ more → text ≡ with_primes (length text) []
+  begun more e =
+      let ends : rest ≡ with_primes (length rest) [] = all_as_first 39 rest more refl (sym is ∙ e) in
+      is ∙ ap (λ l. 39 ∷ l) ends ∙ sym (prime_before (length rest)) ∙ ap (λ l. with_primes (length l) []) (sym is)
 
-  pub first_of_primes : bytes ≡ with_primes (length bytes) [] → (x ≡ 39) × (rest ≡ take (length rest) bytes)
-  first_of_primes h =
-      let n : ℕ = length rest in
-      let whole : bytes ≡ with_primes n [] ++ 39 ∷ [] = h ∙ ap (λ l. with_primes (length l) []) is in
-      let parts : x ∷ rest ≡ 39 ∷ with_primes n [] = sym is ∙ whole ∙ prime_before n in
-      let cut : take n (with_primes n [] ++ 39 ∷ []) ≡ with_primes n [] = ap (λ m. take m (with_primes n [] ++ 39 ∷ [])) (sym (so_many n)) ∙ take-append_seam (with_primes n []) (39 ∷ []) in
-      (ap (λ l. get_or l 0 0) parts, ap (drop 1) parts ∙ sym cut ∙ ap (take n) (sym whole))
+  begins : text ≡ with_primes (length text) [] → text ≡ rest ++ 39 ∷ []
+  begins h =
+      let whole : text ≡ with_primes (length rest) [] ++ 39 ∷ [] = h ∙ ap (λ l. with_primes (length l) []) is in
+      let ends : rest ≡ with_primes (length rest) [] = ap (drop 1) (sym is ∙ whole ∙ prime_before (length rest)) in
+      whole ∙ ap (λ l. l ++ 39 ∷ []) (sym ends)
+
+  pub by_shift : (r : Bool) → MatchBool r (HasPrefixMatch (FindsTextPrefix rest) text) (FindsTextPrefix rest text None) → Decides r (text ≡ with_primes (length text) [])
+  by_shift true m = (λ t. begun (drop m.0 text) m.1.1, λ h. refl)
+  by_shift false m = (λ t. absurd (cc), λ h. absurd (m (39 ∷ []) (begins h)))
+
+pub no_prime : (text : List ℕ) → ((rest : List ℕ) → text ≢ 39 ∷ rest) → (r : Bool) → r ≡ (length text == 0) → Decides r (text ≡ with_primes (length text) [])
+no_prime [] f r e = (λ t. refl, λ h. e ∙ (Decides-eqb 0 0).1 refl)
+no_prime (x ∷ xs) f r e = (λ t. absurd (let none : suc (length xs) ≡ 0 = (Decides-eqb (suc (length xs)) 0).0 (sym e ∙ t) in omega (arith, none)), λ h. absurd (f (with_primes (length xs) []) (h ∙ prime_before (length xs))))
 
 -- ---- the name after the base
 
-module _ (name base s p : List ℕ) (is : s ≡ name) (at : p ≡ base) where
-  pub not_begun : pointwise nat_eq (take (length p) s) p ≡ false → (k : ℕ) → name ≢ with_primes k base
-  not_begun m k e = strip_prefix_is Decides-eqb s p None m (with_primes k []) (is ∙ e ∙ primes_at_end k base ∙ ap (λ a. a ++ with_primes k []) (sym at))
+module _ (name base : List ℕ) where
+  pub not_begun : ((rest : List ℕ) → name ≢ base ++ rest) → (k : ℕ) → name ≢ with_primes k base
+  not_begun f k e = f (with_primes k []) (e ∙ primes_at_end k base)
 
-  module _ (end : List ℕ) (whole : s ≡ p ++ end) where
+  module _ (end : List ℕ) (n : ℕ) (whole : name ≡ base ++ drop n name) (is : end ≡ drop n name) where
     pub with_end : end ≡ with_primes (length end) [] → name ≡ with_primes (length end) base
-    with_end e = sym is ∙ whole ∙ (λ i. at i ++ e i) ∙ sym (primes_at_end (length end) base)
+    with_end e = whole ∙ ap (λ a. base ++ a) (sym is ∙ e) ∙ sym (primes_at_end (length end) base)
 
     pub end_of : (k : ℕ) → name ≡ with_primes k base → end ≡ with_primes (length end) []
     end_of k e =
-        let same : end ≡ with_primes k [] = append_cancel_left p end (with_primes k []) (sym whole ∙ is ∙ e ∙ primes_at_end k base ∙ ap (λ a. a ++ with_primes k []) (sym at)) in
-        same ∙ ap (λ n. with_primes n []) (sym (ap length same ∙ so_many k))
+        let same : end ≡ with_primes k [] = is ∙ append_cancel_left base (drop n name) (with_primes k []) (sym whole ∙ e ∙ primes_at_end k base) in
+        same ∙ ap (λ m. with_primes m []) (sym (ap length same ∙ so_many k))
 
 -- ---- so many primes and no other number
 
