@@ -1,7 +1,8 @@
 -- Marks at the numbers of primes that are taken.
-use Rattle.std.proofs.Common.{◌≡◌, ℕ, zero, suc, ◌+◌, ◌<◌, List, [], ◌∷◌, length, get_or, drop, map, refl, ap, sym, ◌∙◌, Bool, true, false, not, ◌&&◌, ◌||◌, bytes_eq, arith}
+use Rattle.std.proofs.Common.{◌≡◌, ℕ, ◌+◌, ◌<◌, List, [], length, get_or, drop, map, ap, sym, ◌∙◌, Bool, true, false, not, ◌&&◌, ◌||◌, bytes_eq}
 use Rattle.std.proofs.Math.Bool.{or_assoc}
 use Rattle.hol_types.specs.Tree.{TypeTree}
+use Rattle.hol_types.proofs.Steps.{next_of}
 use Rattle.hol_terms.specs.Named.{Named, var}
 use Rattle.hol_terms.specs.Nameless.{nameless}
 use Rattle.hol_terms.specs.Scoped.{binds}
@@ -19,9 +20,7 @@ of_variable t v env a e = sym (has_place a env 0 v) ∙ ap (λ u. has_name a (na
 -- ---- one term after another
 
 taken_on : (avoid : List Named) (i : ℕ) (t : Named) (a : List ℕ) → i < length avoid → t ≡ get_or avoid i t → is_taken (map (λ n. nameless [] n) (drop i avoid)) a ≡ (has_name a (nameless [] t) || is_taken (map (λ n. nameless [] n) (drop (i + 1) avoid)) a)
-taken_on [] i t a l e = absurd (omega arith)
-taken_on (n ∷ avoid) zero t a l e = let same : t ≡ n = e in rw same refl
-taken_on (n ∷ avoid) (suc i) t a l e = let d : suc i + 1 ≡ suc (i + 1) = omega arith in rw d (taken_on avoid i t a (omega arith) e)
+taken_on avoid i t a l e = ap (λ ns. is_taken (map (λ n. nameless [] n) ns) a) (next_of avoid i t l e)
 
 pub marks_on : (avoid : List Named) (i : ℕ) (t : Named) (a : List ℕ) (all old new : Bool) → i < length avoid → t ≡ get_or avoid i t → all ≡ (old || is_taken (map (λ n. nameless [] n) (drop i avoid)) a) → new ≡ (old || has_name a (nameless [] t)) → all ≡ (new || is_taken (map (λ n. nameless [] n) (drop (i + 1) avoid)) a)
 marks_on avoid i t a all old new l e h k =

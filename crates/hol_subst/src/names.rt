@@ -1,5 +1,5 @@
 //! Names for new free variables.
-ghost use Rattle.std.specs.Prelude.{◌≡◌, ◌≢◌, ℕ, [], map, not, length, get_or, true, false, ◌&&◌, ◌==◌, bytes_eq, IfOk, OnOk, MatchOption, IsTrue, ◌↔◌, ◌<◌, string_bytes};
+ghost use Rattle.std.specs.Prelude.{◌≡◌, ◌≢◌, ℕ, [], map, not, length, get_or, true, false, ◌&&◌, ◌==◌, bytes_eq, IfOk, OnOk, MatchOption, IsTrue, ◌↔◌, ◌<◌};
 ghost use Rattle.hol_terms.specs.Nameless.{nameless};
 ghost use Rattle.hol_terms.specs.Primes.{with_primes};
 ghost use Rattle.hol_terms.specs.Scope.{binders};
