@@ -111,7 +111,7 @@ fixed_there names (p ∷ ps) a h = by (has_type_var a (hyp_of p)) refl h (fixed_
     by false e k r = r k
 
 -- ---- variables
-variables_stay : (vs : List (List ℕ × TypeTree)) (ws : List (List ℕ × TypeTree)) (w : List ℕ × TypeTree) → binds vs w ≡ true → binds (add_all vs ws) w ≡ true
+pub variables_stay : (vs : List (List ℕ × TypeTree)) (ws : List (List ℕ × TypeTree)) (w : List ℕ × TypeTree) → binds vs w ≡ true → binds (add_all vs ws) w ≡ true
 variables_stay vs [] w h = h
 variables_stay vs (x ∷ ws) w h = by (binds vs x) (variables_stay vs ws w h) (variables_stay (vs ++ x ∷ []) ws w (binds_append vs (x ∷ []) w ∙ or_left (binds vs w) (binds (x ∷ []) w) h))
   where
