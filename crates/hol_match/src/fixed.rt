@@ -2,6 +2,7 @@
 ghost use Rattle.std.specs.Prelude.{◌≡◌, ◌∷◌, [], map, IfOk, OnOk, if◌then◌else◌, Some, None};
 ghost use Rattle.hol_types.specs.Tree.{TyVar};
 ghost use Rattle.hol_types.specs.Names.{is_among};
+ghost use Rattle.hol_types.specs.Equal.{variable_eq};
 ghost use Rattle.hol_types.specs.Subst.{type_lookup};
 ghost use Rattle.hol_terms.specs.Nameless.{nameless, free};
 ghost use Rattle.hol_terms.specs.Scoped.{add_all, add_new, binds};
@@ -58,16 +59,23 @@ impl Fixed {
     }
 }
 
-// Whether the variable is one of these.
+// Whether the variable is one of these. Most others are told apart by what variables keep of their names.
 fn has_variable(variables: &[Variable], v: &Variable) -> bool
     ensures { result ≡ binds variables.now v.now }
 {
     for u in variables {
-        if u.same(v) {
+        if is_same(u, v) {
             return true;
         }
     }
     false
+}
+
+// Whether the two are the same.
+fn is_same(u: &Variable, v: &Variable) -> bool
+    ensures { result ≡ variable_eq u.now v.now }
+{
+    u.filter().same(v.filter()) && u.same(v)
 }
 
 // The type variables of the terms, each once.
