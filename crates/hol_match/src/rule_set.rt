@@ -233,6 +233,9 @@ fn match_of(alloc: Global, rule: &SetRule, t: &Term) -> Result<Option<Instance>,
     if !may_match(left, t) {
         return Ok(None);
     }
+    if rule.is_apart_from(t) {
+        return Ok(None);
+    }
     match_with(alloc, rule.fixed(), left, t)
 }
 
@@ -290,7 +293,7 @@ fn add_theorem(
     let rules = source.rules(alloc, hyps)?;
     add_rule_variables(alloc, variables, source.fixed(), &rules)?;
     let source = Rc::new(alloc, source)?;
-    add_rules(all, i, &source, &rules)?;
+    add_rules(alloc, all, i, &source, &rules)?;
     Ok(())
 }
 
@@ -309,6 +312,7 @@ fn hypotheses(given: &Given) -> &[Term]
 // Puts the rules at the end, as those of the theorem of number `theorem`.
 #[tactic(auto, using(crate::proofs::RuleSets::way_at, crate::proofs::RuleSets::given_pushed))]
 fn add_rules(
+    alloc: Global,
     all: &mut Vec<SetRule>,
     theorem: usize,
     source: &Rc<Source>,
@@ -319,7 +323,7 @@ fn add_rules(
     ensures given { OnOk result (AddsFrom theorem source.now.value.given all.old.items all.new.items) }
 {
     for (place, rule) in rules.iter().enumerate() {
-        let entry = SetRule::of(rule, theorem, place, source)?;
+        let entry = SetRule::of(alloc, rule, theorem, place, source)?;
         all.push(entry)?;
     }
     Ok(())
