@@ -1,6 +1,7 @@
 -- Variables that are apart from the rules of a set, and abstractions over them.
-use Rattle.std.proofs.Common.{◌≡◌, ℕ, List, [], ◌∷◌, ◌++◌, map, refl, ap, sym, ◌∙◌, Bool, true, false, cond, ◌||◌, bytes_eq}
-use Rattle.std.proofs.lemmas.Bool.{or_parts}
+use Rattle.std.proofs.Common.{◌≡◌, ℕ, ◌+◌, ◌==◌, length, List, [], ◌∷◌, ◌++◌, map, refl, ap, sym, ◌∙◌, Bool, true, false, cond, ◌||◌, bytes_eq, arith}
+use Rattle.std.proofs.lemmas.Bool.{or_parts, or_left, or_right}
+use Rattle.std.proofs.lemmas.Bool.Decides.{nat_tests}
 use Rattle.std.proofs.lemmas.Slice.Eq.{bytes_eq-Decides}
 use Rattle.hol_types.specs.Tree.{TypeTree}
 use Rattle.hol_types.specs.Equal.{variable_eq}
@@ -14,9 +15,15 @@ use Rattle.hol_subst.specs.Closing.{close, open_with}
 use Rattle.hol_subst.specs.FreeName.{has_name, is_taken, IsFreeName}
 use Rattle.hol_subst.proofs.Closing.{close_under}
 use Rattle.hol_subst.proofs.Opening.{close_open}
-use Rattle.hol_match.specs.RuleSets.{RuleEntry}
-use Rattle.hol_match.specs.Apart.{is_named, IsApart, rule_variables}
+use Rattle.hol_subst.proofs.InstSteps.{all_there}
+use Rattle.hol_match.specs.Instance.{InstanceValue}
+use Rattle.hol_match.specs.Rules.{RuleValue}
+use Rattle.hol_match.specs.RuleSets.{RuleEntry, entries}
+use Rattle.hol_match.specs.RuleView.{rule_value, rule_values}
+use Rattle.hol_match.specs.declared.rule.Rule.{Rule}
+use Rattle.hol_match.specs.Apart.{is_named, IsApart, AddsVariables, rule_variables, right_variables}
 use Rattle.hol_match.proofs.Contracta.{named_append}
+use Rattle.hol_match.proofs.Keeping.{variables_stay}
 use Rattle.hol_match.proofs.Opened.{not_taken}
 
 abbrev Var : Type 0
@@ -78,6 +85,45 @@ apart_of vs (e ∷ es) v h =
     let own = add_all [] (free_occurrences e.rule.right) in
     let p = all_unnamed more own v.0 (rules_unnamed (add_all more own) es v.0 h) in
     (unbound ws v (all_unnamed vs ws v.0 p.0).1, (all_unnamed [] (free_occurrences e.rule.right) v.0 p.1).1, apart_of (add_all more own) es v h)
+
+-- ---- the variables of the rules of one theorem
+
+itself : (w : Var) (ws : List Var) → binds (w ∷ ws) w ≡ true
+itself w ws = or_left (variable_eq w w) (binds ws w) ((variable_eq_decides w w).1 refl)
+
+-- those that are there already add nothing
+add_there : (vs ws : List Var) → ((w : Var) → binds ws w ≡ true → binds vs w ≡ true) → add_all vs ws ≡ vs
+add_there vs [] h = refl
+add_there vs (w ∷ ws) h =
+    ap (λ b. add_all (cond b vs (vs ++ w ∷ [])) ws) (h w (itself w ws))
+    ∙ add_there vs ws (λ x k. h x (or_right (variable_eq w x) (binds ws x) k))
+
+-- what stays is there, so that the right sides alone add something
+right_sides : (i k : ℕ) (s : InstanceValue) (rules : List RuleValue) (vs : List Var) → ((w : Var) → binds (map (λ (p : Nameless × Var). p.1) s.terms) w ≡ true → binds vs w ≡ true) → rule_variables vs (entries i k s rules) ≡ right_variables vs rules
+right_sides i k s [] vs h = refl
+right_sides i k s (r ∷ rules) vs h =
+    let own = add_all [] (free_occurrences r.right) in
+    ap (λ us. rule_variables (add_all us own) (entries i (k + 1) s rules)) (add_there vs (map (λ (p : Nameless × Var). p.1) s.terms) h)
+    ∙ right_sides i (k + 1) s rules (add_all vs own) (λ w b. variables_stay vs own w (h w b))
+
+pub of_none : (rules : List Rule) (s : InstanceValue) (vs : List (List ℕ × TypeTree)) → (length rules == 0) ≡ true → (i : ℕ) → vs ≡ rule_variables vs (entries i 0 s (rule_values rules))
+of_none [] s vs e i = refl
+of_none (r ∷ rules) s vs e i = absurd (grind (arith, nat_tests, e))
+
+pub of_theorem : (rules : List Rule) (s : InstanceValue) (vs with_staying new : List (List ℕ × TypeTree)) → (length rules == 0) ≡ false → with_staying ≡ add_all vs (map (λ (p : Nameless × (List ℕ × TypeTree)). p.1) s.terms) → new ≡ right_variables with_staying (rule_values rules) → (i : ℕ) → new ≡ rule_variables vs (entries i 0 s (rule_values rules))
+of_theorem [] s vs with_staying new e f g i = absurd (grind (arith, nat_tests, e))
+of_theorem (r ∷ rules) s vs with_staying new e f g i =
+    let ws = map (λ (p : Nameless × Var). p.1) s.terms in
+    let own = add_all [] (free_occurrences (rule_value r).right) in
+    g ∙ ap (λ us. right_variables us (rule_values (r ∷ rules))) f
+    ∙ sym (right_sides i 1 s (rule_values rules) (add_all (add_all vs ws) own) (λ w b. variables_stay (add_all vs ws) own w (all_there vs ws w b)))
+
+further : (vs : List Var) (before more : List RuleEntry) → rule_variables vs (before ++ more) ≡ rule_variables (rule_variables vs before) more
+further vs [] more = refl
+further vs (e ∷ before) more = further (add_all (add_all vs (map (λ (p : Nameless × Var). p.1) e.stays.terms)) (add_all [] (free_occurrences e.rule.right))) before more
+
+pub variables_added : (before after more : List RuleEntry) (old new : List (List ℕ × TypeTree)) → after ≡ before ++ more → new ≡ rule_variables old more → AddsVariables before after old new
+variables_added before after more old new a n o = n ∙ ap (λ vs. rule_variables vs more) o ∙ sym (further [] before more) ∙ ap (rule_variables []) (sym a)
 
 -- ---- a name that is in use nowhere
 pub name_free : (a : List ℕ) (s : TypeTree) (n : Nameless) → has_name a n ≡ false → binds (free_occurrences n) (a, s) ≡ false

@@ -48,7 +48,7 @@ term_names a (fixed c s) = tyvars_among s a
 term_names a (app f x) = among_append (type_names_in f) (type_names_in x) a ∙ (λ i. term_names a f i || term_names a x i)
 term_names a (lam b s n) = among_append (tyvars s) (type_names_in n) a ∙ (λ i. tyvars_among s a i || term_names a n i)
 
-term_has : (a : List ℕ) (n : Nameless) → is_among (term_tyvars n) a ≡ has_type_var a n
+pub term_has : (a : List ℕ) (n : Nameless) → is_among (term_tyvars n) a ≡ has_type_var a n
 term_has a n = ordered_has (type_names_in n) a ∙ term_names a n
 
 pub stripped : (a : List ℕ) (n : Nameless) → has_type_var a (strip n) ≡ has_type_var a n
@@ -111,7 +111,7 @@ fixed_there names (p ∷ ps) a h = by (has_type_var a (hyp_of p)) refl h (fixed_
     by false e k r = r k
 
 -- ---- variables
-variables_stay : (vs : List (List ℕ × TypeTree)) (ws : List (List ℕ × TypeTree)) (w : List ℕ × TypeTree) → binds vs w ≡ true → binds (add_all vs ws) w ≡ true
+pub variables_stay : (vs : List (List ℕ × TypeTree)) (ws : List (List ℕ × TypeTree)) (w : List ℕ × TypeTree) → binds vs w ≡ true → binds (add_all vs ws) w ≡ true
 variables_stay vs [] w h = h
 variables_stay vs (x ∷ ws) w h = by (binds vs x) (variables_stay vs ws w h) (variables_stay (vs ++ x ∷ []) ws w (binds_append vs (x ∷ []) w ∙ or_left (binds vs w) (binds (x ∷ []) w) h))
   where

@@ -19,6 +19,7 @@ pub mod Apartness
 pub mod PassedOver
 pub mod Held
 pub mod Standing
+mod Ground
 pub mod Formulas
 pub mod Buckets
 pub mod HeadNames

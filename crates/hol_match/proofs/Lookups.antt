@@ -1,5 +1,6 @@
 -- Looking up in pairs that come after those of what stays, and one step of matching types.
 use Rattle.std.proofs.Common.{◌≡◌, ℕ, zero, suc, ◌<◌, ◌≤◌, List, [], ◌∷◌, ◌++◌, map, length, get_or, refl, ap, sym, ◌∙◌, Bool, true, false, cond, ◌||◌, if◌then◌else◌, bytes_eq, Some, None, subst, inl, inr, arith}
+use Rattle.std.specs.Bool.{IsTrue}
 use Rattle.std.specs.Option.{option_and_then}
 use Rattle.std.proofs.lemmas.List.{append_assoc}
 use Rattle.std.proofs.lemmas.Slice.Eq.{bytes_eq-Decides}
@@ -7,6 +8,7 @@ use Rattle.hol_types.specs.Tree.{TypeTree, TyVar}
 use Rattle.hol_types.specs.Names.{is_among}
 use Rattle.hol_types.specs.Subst.{type_lookup}
 use Rattle.hol_types.specs.Equal.{variable_eq}
+use Rattle.hol_types.specs.Filter.{name_bit}
 use Rattle.hol_types.proofs.Lookups.{type_first, type_second}
 use Rattle.hol_types.proofs.Steps.{match_ends_some, match_ends_none, match_more_none, part_size, arguments_smaller}
 use Rattle.hol_types.proofs.Filters.{closed_match}
@@ -138,6 +140,15 @@ other_variable (var w) v b f e = by (variable_eq w v) f
 other_variable (constant c s) v b f e = refl
 other_variable (comb g x) v b f e = refl
 other_variable (abs w t) v b f e = refl
+
+-- variables whose names have other bits are two
+pub other_bits : (u v : List ℕ × TypeTree) (p q : ℕ) (b : Bool) → p ≡ name_bit u.0 → q ≡ name_bit v.0 → (p ≡ q → IsTrue b) → b ≡ false → b ≡ variable_eq u v
+other_bits u v p q true e f h k = absurd (cc)
+other_bits u v p q false e f h k = by (variable_eq u v) refl
+  where
+    by : (c : Bool) → variable_eq u v ≡ c → false ≡ c
+    by true g = h (e ∙ ap (λ (w : List ℕ × TypeTree). name_bit w.0) ((variable_eq_decides u v).0 g) ∙ sym f)
+    by false g = refl
 
 -- ---- types
 

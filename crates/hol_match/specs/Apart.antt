@@ -4,6 +4,7 @@ use Rattle.std.specs.Prelude.{◌≡◌, ℕ, List, [], ◌∷◌, map, Bool, fa
 use Rattle.hol_types.specs.Tree.{TypeTree}
 use Rattle.hol_terms.specs.Nameless.{free_occurrences}
 use Rattle.hol_terms.specs.Scoped.{binds, add_all}
+use Rattle.hol_match.specs.Rules.{RuleValue}
 use Rattle.hol_match.specs.RuleSets.{RuleEntry}
 
 -- one of the variables has the name
@@ -20,3 +21,12 @@ IsApart (e ∷ es) v = (binds (map (λ p. p.1) e.stays.terms) v ≡ false) × (i
 abbrev pub rule_variables : List (List ℕ × TypeTree) → List RuleEntry → List (List ℕ × TypeTree)
 rule_variables vs [] = vs
 rule_variables vs (e ∷ es) = rule_variables (add_all (add_all vs (map (λ p. p.1) e.stays.terms)) (add_all [] (free_occurrences e.rule.right))) es
+
+-- those of the right sides alone
+abbrev pub right_variables : List (List ℕ × TypeTree) → List RuleValue → List (List ℕ × TypeTree)
+right_variables vs [] = vs
+right_variables vs (r ∷ rules) = right_variables (add_all vs (add_all [] (free_occurrences r.right))) rules
+
+-- variables that are those of the rules before are those of the rules after
+abbrev pub AddsVariables : List RuleEntry → List RuleEntry → List (List ℕ × TypeTree) → List (List ℕ × TypeTree) → Type 0
+AddsVariables before after old new = old ≡ rule_variables [] before → new ≡ rule_variables [] after

@@ -1,9 +1,10 @@
 -- What a match leaves as it is: the type variables and the free variables of some terms, such as a theorem's hypotheses.
-use Rattle.std.specs.Prelude.{◌≡◌, ℕ, List, [], ◌∷◌, ◌++◌, cond}
+use Rattle.std.specs.Prelude.{◌≡◌, ℕ, List, [], ◌∷◌, ◌++◌, Bool, cond, ◌&&◌}
+use Rattle.std.specs.List.{list_all}
 use Rattle.hol_types.specs.Tree.{TypeTree}
 use Rattle.hol_types.specs.Names.{is_among}
 use Rattle.hol_terms.specs.Nameless.{Nameless, free_occurrences}
-use Rattle.hol_terms.specs.Scoped.{add_all}
+use Rattle.hol_terms.specs.Scoped.{binds, add_all}
 use Rattle.hol_subst.specs.TermTyvars.{term_tyvars}
 use Rattle.hol_match.specs.Instance.{InstanceValue, staying}
 use Rattle.hol_match.specs.declared.fixed.Fixed.{Fixed}
@@ -29,6 +30,10 @@ fixed_variables variables (t ∷ terms) = fixed_variables (add_all variables (ad
 -- the terms' variables, each given itself
 abbrev pub stays_of : List Nameless → InstanceValue
 stays_of terms = staying (fixed_names [] terms) (fixed_variables [] terms)
+
+-- each variable and each type variable of the term is one of these
+abbrev pub all_stay : List (List ℕ) → List (List ℕ × TypeTree) → Nameless → Bool
+all_stay names variables t = list_all (binds variables) (add_all [] (free_occurrences t)) && list_all (is_among names) (term_tyvars t)
 
 -- the same of what the program keeps of the terms
 abbrev pub stays : Fixed → InstanceValue

@@ -1,15 +1,17 @@
 //! Abstractions over variables that can be bound above a redex.
-ghost use Rattle.std.specs.Prelude.{◌≡◌, ◌++◌, [], false, map, IfOk, OnOk};
+ghost use Rattle.std.specs.Prelude.{◌≡◌, ◌++◌, ℕ, [], false, map, IfOk, OnOk};
 ghost use Rattle.hol_types.specs.Tree.{TypeTree};
 ghost use Rattle.hol_terms.specs.Named.{var, abs, named_type};
 ghost use Rattle.hol_terms.specs.Nameless.{nameless, free_occurrences, base_of};
-ghost use Rattle.hol_terms.specs.Scoped.{binds, add_all};
-ghost use Rattle.hol_match.specs.Apart.{is_named, rule_variables};
-ghost use Rattle.hol_match.specs.SetView.{set_rule, set_rules};
+ghost use Rattle.hol_terms.specs.Scoped.{binds};
+ghost use Rattle.hol_match.specs.Apart.{is_named, rule_variables, right_variables};
+ghost use Rattle.hol_match.specs.Fixed.{stays};
+ghost use Rattle.hol_match.specs.RuleSets.{entries};
+ghost use Rattle.hol_match.specs.RuleView.{rule_values};
 
-use crate::fixed::add_variables;
+use crate::fixed::{Fixed, add_variables};
+use crate::rule::Rule;
 use crate::rules::renamed;
-use crate::set_rule::SetRule;
 use hol_subst::free_name;
 use hol_terms::{Term, Variable};
 use hol_types::Name;
@@ -100,26 +102,34 @@ fn add_terms(alloc: Global, terms: &mut Vec<Term>, variables: &[Variable]) -> Re
     Ok(())
 }
 
-/// The variables that stay in some rule and those of the right sides, each once.
-pub(crate) fn rule_variables(alloc: Global, rules: &[SetRule]) -> Result<Vec<Variable>, AllocError>
-    ensures { IfOk result (λ vs. vs.items ≡ rule_variables [] (set_rules rules.now)) }
-{
-    let mut variables = Vec::new(alloc);
-    for rule in rules {
-        add_rule_variables(alloc, &mut variables, rule)?;
-    }
-    Ok(variables)
-}
-
-// Puts those of one rule that are not there at the end.
-fn add_rule_variables(
+/// Puts the variables that stay in the rules of a theorem, and those of their right sides, that are not there at the end. What stays is
+/// looked at once, however many rules there are.
+pub(crate) fn add_rule_variables(
     alloc: Global,
     variables: &mut Vec<Variable>,
-    rule: &SetRule,
+    fixed: &Fixed,
+    rules: &[Rule],
 ) -> Result<(), AllocError>
-    ensures { OnOk result (variables.new.items ≡ add_all (add_all variables.old.items (map (λ p. p.1) (set_rule rule.now).stays.terms)) (add_all [] (free_occurrences (set_rule rule.now).rule.right))) }
+    ensures { OnOk result ((i : ℕ) → variables.new.items ≡ rule_variables variables.old.items (entries i 0 (stays fixed.now) (rule_values rules.now))) }
 {
-    rule.fixed().add_to(variables)?;
-    let own = rule.right().frees(alloc)?;
-    add_variables(variables, &own)
+    if rules.is_empty() {
+        return Ok(());
+    }
+    fixed.add_to(variables)?;
+    add_right_sides(alloc, variables, rules)
+}
+
+// Puts the variables of the right sides that are not there at the end.
+fn add_right_sides(
+    alloc: Global,
+    variables: &mut Vec<Variable>,
+    rules: &[Rule],
+) -> Result<(), AllocError>
+    ensures { OnOk result (variables.new.items ≡ right_variables variables.old.items (rule_values rules.now)) }
+{
+    for rule in rules {
+        let own = rule.right().frees(alloc)?;
+        add_variables(variables, &own)?;
+    }
+    Ok(())
 }

@@ -1,12 +1,14 @@
 //! What a match leaves as it is: the variables and the type variables of some terms.
 ghost use Rattle.std.specs.Prelude.{◌≡◌, ◌∷◌, [], map, IfOk, OnOk, if◌then◌else◌, Some, None};
+ghost use Rattle.std.specs.List.{list_all};
 ghost use Rattle.hol_types.specs.Tree.{TyVar};
 ghost use Rattle.hol_types.specs.Names.{is_among};
+ghost use Rattle.hol_types.specs.Equal.{variable_eq};
 ghost use Rattle.hol_types.specs.Subst.{type_lookup};
 ghost use Rattle.hol_terms.specs.Nameless.{nameless, free};
 ghost use Rattle.hol_terms.specs.Scoped.{add_all, add_new, binds};
 ghost use Rattle.hol_subst.specs.Substitution.{term_lookup};
-ghost use Rattle.hol_match.specs.Fixed.{AreFixed, add_name, add_names, fixed_names, fixed_variables, stays, stays_of};
+ghost use Rattle.hol_match.specs.Fixed.{AreFixed, all_stay, add_name, add_names, fixed_names, fixed_variables, stays, stays_of};
 
 use hol_subst::term_tyvars;
 use hol_terms::{Term, Variable};
@@ -56,18 +58,61 @@ impl Fixed {
     {
         has_variable(&self.variables, v)
     }
+
+    /// Whether each variable and each type variable of the term is one of these.
+    pub(crate) fn has_all(&self, alloc: Global, t: &Term) -> Result<bool, AllocError>
+        ensures { IfOk result (λ b. b ≡ all_stay self.now.names.items self.now.variables.items (nameless [] t.now)) }
+    {
+        let variables = t.frees(alloc)?;
+        if !has_variables(&self.variables, &variables) {
+            return Ok(false);
+        }
+        let names = term_tyvars(alloc, t)?;
+        Ok(has_names(&self.names, &names))
+    }
 }
 
-// Whether the variable is one of these.
+// Whether each of the variables is one of these.
+fn has_variables(variables: &[Variable], own: &[Variable]) -> bool
+    ensures { result ≡ list_all (binds variables.now) own.now }
+{
+    for v in own {
+        if !has_variable(variables, v) {
+            return false;
+        }
+    }
+    true
+}
+
+// Whether each of the names is one of these.
+fn has_names(names: &[Name], own: &[Name]) -> bool
+    ensures { result ≡ list_all (is_among names.now) own.now }
+{
+    for name in own {
+        if !is_among(names, name) {
+            return false;
+        }
+    }
+    true
+}
+
+// Whether the variable is one of these. Most others are told apart by what variables keep of their names.
 fn has_variable(variables: &[Variable], v: &Variable) -> bool
     ensures { result ≡ binds variables.now v.now }
 {
     for u in variables {
-        if u.same(v) {
+        if is_same(u, v) {
             return true;
         }
     }
     false
+}
+
+// Whether the two are the same.
+fn is_same(u: &Variable, v: &Variable) -> bool
+    ensures { result ≡ variable_eq u.now v.now }
+{
+    u.filter().same(v.filter()) && u.same(v)
 }
 
 // The type variables of the terms, each once.

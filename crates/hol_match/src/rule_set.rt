@@ -12,7 +12,7 @@ ghost use Rattle.hol_subst.specs.Hypotheses.{hyp_of, hyps_of};
 ghost use Rattle.hol_kernel.specs.Given.{given_sequent};
 ghost use Rattle.hol_match.specs.RuleSets.{rule_entries, IsTypedRule, IsFit, entries, fit, first_fit};
 ghost use Rattle.hol_match.specs.Contracta.{contracted, contractum, HasNoRedex};
-ghost use Rattle.hol_match.specs.Apart.{IsApart, rule_variables};
+ghost use Rattle.hol_match.specs.Apart.{IsApart, AddsVariables, rule_variables};
 ghost use Rattle.hol_match.specs.SetView.{set_rule, set_rules, set_given, set_givens, IsGivenIn, AreOf, Adds, AddsFrom};
 ghost use Rattle.hol_match.specs.RuleView.{rule_values};
 ghost use Rattle.hol_match.specs.Ways.{rule_ways};
@@ -24,7 +24,7 @@ ghost use Rattle.hol_match.specs.Heads.{first_in, bucket_passes_over, earlier};
 ghost use Rattle.hol_match.specs.HeadView.{AreFirst, AreNext};
 ghost use Rattle.hol_match.specs.HeadNames.{head_bits};
 
-use crate::binder::{Binder, binder_apart, rule_variables};
+use crate::binder::{Binder, add_rule_variables, binder_apart};
 use crate::head_names::head_names;
 use crate::heads::Heads;
 use crate::instance::Instance;
@@ -65,8 +65,7 @@ impl RuleSet {
         ensures rules { IfOk result (λ set. set_rules set.rules.items ≡ rule_entries 0 (map given_sequent thms.now)) }
         ensures given { IfOk result (λ set. AreOf thms.now set.rules.items) }
     {
-        let rules = all_rules(alloc, thms)?;
-        let variables = rule_variables(alloc, &rules)?;
+        let (rules, variables) = all_rules(alloc, thms)?;
         let heads = Heads::of(alloc, &rules)?;
         let names = head_names(&rules);
         Ok(RuleSet {
@@ -234,6 +233,9 @@ fn match_of(alloc: Global, rule: &SetRule, t: &Term) -> Result<Option<Instance>,
     if !may_match(left, t) {
         return Ok(None);
     }
+    if rule.is_apart_from(t) {
+        return Ok(None);
+    }
     match_with(alloc, rule.fixed(), left, t)
 }
 
@@ -258,35 +260,40 @@ fn rules_depth(rules: &[SetRule]) -> Option<usize>
     Some(most)
 }
 
-// The rules of the theorems.
+// The rules of the theorems, and the variables that stay in some rule or stand in a right side, each once.
 #[tactic(auto, using(crate::proofs::RuleSets::going, crate::proofs::RuleSets::given_more))]
-fn all_rules(alloc: Global, thms: &[Given]) -> Result<Vec<SetRule>, AllocError>
-    ensures rules { IfOk result (λ all. set_rules all.items ≡ rule_entries 0 (map given_sequent thms.now)) }
-    ensures given { IfOk result (λ all. AreOf thms.now all.items) }
+fn all_rules(alloc: Global, thms: &[Given]) -> Result<(Vec<SetRule>, Vec<Variable>), AllocError>
+    ensures rules { IfOk result (λ all. set_rules all.0.items ≡ rule_entries 0 (map given_sequent thms.now)) }
+    ensures given { IfOk result (λ all. AreOf thms.now all.0.items) }
+    ensures variables { IfOk result (λ all. all.1.items ≡ rule_variables [] (set_rules all.0.items)) }
 {
     let mut all = Vec::new(alloc);
+    let mut variables = Vec::new(alloc);
     for (i, given) in thms.iter().enumerate() {
-        add_theorem(alloc, &mut all, i, given)?;
+        add_theorem(alloc, &mut all, &mut variables, i, given)?;
     }
-    Ok(all)
+    Ok((all, variables))
 }
 
-// Puts the rules of the theorem of number `i` at the end.
+// Puts the rules of the theorem of number `i` at the end, and their variables that are not there.
 #[tactic(auto, using(crate::proofs::RuleSets::adds))]
 fn add_theorem(
     alloc: Global,
     all: &mut Vec<SetRule>,
+    variables: &mut Vec<Variable>,
     i: usize,
     given: &Given,
 ) -> Result<(), AllocError>
     ensures adds { OnOk result (Adds i (given_sequent given.now) (set_rules all.old.items) (set_rules all.new.items)) }
     ensures given { OnOk result (AddsFrom i given.now all.old.items all.new.items) }
+    ensures variables { OnOk result (AddsVariables (set_rules all.old.items) (set_rules all.new.items) variables.old.items variables.new.items) }
 {
     let hyps = hypotheses(given);
     let source = Source::of(alloc, given, hyps)?;
     let rules = source.rules(alloc, hyps)?;
+    add_rule_variables(alloc, variables, source.fixed(), &rules)?;
     let source = Rc::new(alloc, source)?;
-    add_rules(all, i, &source, &rules)?;
+    add_rules(alloc, all, i, &source, &rules)?;
     Ok(())
 }
 
@@ -305,6 +312,7 @@ fn hypotheses(given: &Given) -> &[Term]
 // Puts the rules at the end, as those of the theorem of number `theorem`.
 #[tactic(auto, using(crate::proofs::RuleSets::way_at, crate::proofs::RuleSets::given_pushed))]
 fn add_rules(
+    alloc: Global,
     all: &mut Vec<SetRule>,
     theorem: usize,
     source: &Rc<Source>,
@@ -315,7 +323,7 @@ fn add_rules(
     ensures given { OnOk result (AddsFrom theorem source.now.value.given all.old.items all.new.items) }
 {
     for (place, rule) in rules.iter().enumerate() {
-        let entry = SetRule::of(rule, theorem, place, source)?;
+        let entry = SetRule::of(alloc, rule, theorem, place, source)?;
         all.push(entry)?;
     }
     Ok(())

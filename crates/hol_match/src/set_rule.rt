@@ -1,5 +1,5 @@
 //! Rules of sets.
-ghost use Rattle.std.specs.Prelude.{◌≡◌, [], IfOk, IfSome, MatchOption, Some, None};
+ghost use Rattle.std.specs.Prelude.{◌≡◌, [], IfOk, IfSome, IsTrue, MatchOption, Some, None};
 ghost use Rattle.std.specs.Option.{option_map};
 ghost use Rattle.std.specs.Coded.{Coded-set, coded_option};
 ghost use Rattle.hol_terms.specs.Nameless.{nameless};
@@ -7,7 +7,7 @@ ghost use Rattle.hol_match.specs.RuleSets.{IsTypedRule, fit};
 ghost use Rattle.hol_match.specs.Matches.{IsMatch};
 ghost use Rattle.hol_match.specs.Rules.{single_rule};
 ghost use Rattle.hol_match.specs.RuleView.{rule_value};
-ghost use Rattle.hol_match.specs.Fixed.{stays};
+ghost use Rattle.hol_match.specs.Fixed.{all_stay, stays};
 ghost use Rattle.hol_match.specs.Ways.{rule_way, rule_code, way};
 ghost use Rattle.hol_match.specs.Sources.{source_whole, IsFrom, IsSound};
 
@@ -30,6 +30,8 @@ pub struct SetRule {
     theorem: usize,
     place: usize,
     source: Rc<Source>,
+    ground: bool,
+    ghost all_stay: { ground ≡ all_stay source.value.fixed.names.items source.value.fixed.variables.items (nameless [] rule.left) },
     ghost way: { IsFrom source.value (rule_way rule) } by { Coded-set (coded_option rule_code) (option_map (single_rule source.value.fixed.names.items source.value.fixed.variables.items) (way rule.way (source_whole source.value))) (Some (rule_value rule)) },
 }
 
@@ -39,6 +41,7 @@ impl SetRule {
     /// The rule, of the theorem of number `theorem` and at that place among its rules.
     #[tactic(auto, using(crate::proofs::Ways::way_kept))]
     pub(crate) fn of(
+        alloc: Global,
         rule: &Rule,
         theorem: usize,
         place: usize,
@@ -48,21 +51,29 @@ impl SetRule {
         ensures rule { IfOk result (λ r. set_rule r ≡ record { rule = rule_value rule.now; theorem = theorem; place = place; stays = stays source.now.value.fixed }) }
         ensures given { IfOk result (λ r. set_given r ≡ source.now.value.given) }
     {
+        let ground = source.fixed().has_all(alloc, rule.left())?;
         Ok(SetRule {
             rule: rule.copy()?,
             theorem,
             place,
             source: source.clone()?,
+            ground,
         })
     }
 
     /// An equal rule of the same theorem.
+    #[tactic(auto, using(crate::proofs::Ways::way_kept))]
     pub fn copy(&self) -> Result<SetRule, AllocError>
         ensures rule { IfOk result (λ r. set_rule r ≡ set_rule self.now) }
         ensures given { IfOk result (λ r. set_given r ≡ set_given self.now) }
     {
-        let _place = self.place;
-        SetRule::of(&self.rule, self.theorem, self.place, &self.source)
+        Ok(SetRule {
+            rule: self.rule.copy()?,
+            theorem: self.theorem,
+            place: self.place,
+            source: self.source.clone()?,
+            ground: self.ground,
+        })
     }
 
     /// What stays in the theorem's rules.
@@ -134,6 +145,16 @@ impl SetRule {
         ensures matches { IfOk result (λ found. IfSome found (λ a. IsMatch (set_rule self.now).stays (set_rule self.now).rule.left (nameless [] t.now) a)) }
     {
         match_with(alloc, self.fixed(), self.left(), t)
+    }
+
+    /// Whether the term is seen at once not to match: all of the left side stays, and the term is another one.
+    ///
+    /// Takes no memory.
+    #[tactic(auto, using(crate::proofs::Ground::apart))]
+    pub(crate) fn is_apart_from(&self, t: &Term) -> bool
+        ensures { IsTrue result → fit (set_rule self.now) (nameless [] t.now) ≡ None }
+    {
+        self.ground && !self.rule.left().alpha_equivalent(t)
     }
 
     /// The number of its theorem in the list from which the set was made.
