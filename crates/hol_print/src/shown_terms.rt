@@ -22,20 +22,9 @@ pub struct ShownTerms<'a> {
     at_places: Vec<usize>,
 }
 
-impl<'a> Model for ShownTerms<'a> {
-    ghost use Rattle.std.specs.Prelude.{List};
-    ghost use Rattle.hol_terms.specs.Named.{Named};
-
-    ghost Value = { List Named };
-
-    ghost view = { λ s. s.terms.items };
-}
-
 impl<'a> ShownTerms<'a> {
     /// None yet.
-    pub fn new(alloc: Global) -> ShownTerms<'a>
-        ensures { result ≡ [] }
-    {
+    pub fn new(alloc: Global) -> ShownTerms<'a> {
         ShownTerms {
             terms: Vec::new(alloc),
             at_places: Vec::new(alloc),
@@ -68,7 +57,7 @@ impl<'a> ShownTerms<'a> {
 
     // Where the term is, which is put at the end if it is found nowhere.
     fn find_or_add(&mut self, alloc: Global, t: &'a Term, place: usize) -> Result<usize, AllocError>
-        ensures { IfOk result (λ at. slice_get self.new at ≡ Some t.now) }
+        ensures { IfOk result (λ at. slice_get self.new.terms.items at ≡ Some t.now) }
     {
         if let Some(at) = self.find(t, place) {
             return Ok(at);
@@ -80,7 +69,7 @@ impl<'a> ShownTerms<'a> {
 
     // Where the term is: looks at what stood last at the place, and then at no more of the newest than the term has nodes.
     fn find(&self, t: &Term, place: usize) -> Option<usize>
-        ensures { IfSome result (λ at. slice_get self.now at ≡ Some t.now) }
+        ensures { IfSome result (λ at. slice_get self.now.terms.items at ≡ Some t.now) }
     {
         if let Some(at) = self.at_places.get(place) {
             if self.is_at(*at, t) {
@@ -100,7 +89,7 @@ impl<'a> ShownTerms<'a> {
 
     // Whether the term is seen to be the one that is there.
     fn is_at(&self, at: usize, t: &Term) -> bool
-        ensures { IsTrue result → slice_get self.now at ≡ Some t.now }
+        ensures { IsTrue result → slice_get self.now.terms.items at ≡ Some t.now }
     {
         match self.terms.get(at) {
             Some(shown) => shown.term.same_node(t),
@@ -132,8 +121,11 @@ impl<'a> Model for ShownTerm<'a> {
     ghost use Rattle.hol_terms.specs.Nameless.{nameless, free_occurrences};
     ghost use Rattle.hol_print.specs.ShowTerm.{show};
     ghost use Rattle.hol_print.specs.ShowGoal.{put_all};
+    ghost use Rattle.hol_terms.specs.Code.{coded_named};
 
     ghost Value = { Named };
+
+    ghost coded = { coded_named };
 
     ghost view = { λ s. s.term.now };
 
