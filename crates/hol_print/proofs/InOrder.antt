@@ -6,6 +6,7 @@ use Rattle.std.specs.Ordering.{ordering_reverse}
 use Rattle.std.specs.declared.cmp.Ordering.{Ordering}
 use Rattle.std.specs.declared.cmp.Ordering.TheVariants.{Less, Equal, Greater}
 use Rattle.hol_types.specs.Tree.{TypeTree}
+use Rattle.hol_types.specs.Order.{name_cmp}
 use Rattle.hol_types.specs.Equal.{variable_eq}
 use Rattle.hol_types.proofs.Names.{or_swap}
 use Rattle.hol_terms.specs.Nameless.{Nameless, free_occurrences}
@@ -218,3 +219,83 @@ once ws us (x ∷ occ) = once ws (add_new us x) occ ∙ ap (λ zs. put_all zs oc
 
 pub put_once : (ws : List Var) (t : Nameless) → put_all ws (free_variables t) ≡ put_all ws (free_occurrences t)
 put_once ws t = once ws [] (free_occurrences t)
+
+-- ---- variables of equal names and types
+
+pub same_type : (v w : Var) → name_cmp v.0 w.0 ≡ Equal → v.1 ≡ w.1 → variable_order v w ≡ Equal
+same_type v w n t = rw (n, t) (tied_itself nat_list_cmp_total (show_type w.1))
+
+-- ---- those of a list in order are put as those that it was made of
+
+abbrev IsBefore : Var → List Var → Type 0
+IsBefore v [] = Unit {0}
+IsBefore v (w ∷ ws) = (variable_order v w ≡ Less) × IsBefore v ws
+
+-- v comes before what does not come before w, which it comes before
+before_more : (v w u : Var) → variable_order v w ≡ Less → is_gt (variable_order w u) ≡ false → variable_order v u ≡ Less
+before_more v w u e h = by (variable_order v u) refl
+  where
+    never : (r : Ordering) → variable_order v u ≡ r → is_gt (ordering_reverse r) ≡ false → ⊥
+    never r p g = true≢false (sym (ap is_gt (turned v w Less e)) ∙ upto ordered w u v h (ap is_gt (turned v u r p) ∙ g))
+
+    by : (r : Ordering) → variable_order v u ≡ r → r ≡ Less
+    by Less p = refl
+    by Equal p = absurd (never Equal p refl)
+    by Greater p = absurd (never Greater p refl)
+
+before_all : (v w : Var) (ws : List Var) → variable_order v w ≡ Less → IsNotAfter w ws → IsBefore v ws
+before_all v w [] e h = tt
+before_all v w (u ∷ ws) e h = (before_more v w u e h.0, before_all v w ws e h.1)
+
+swap_places : (v u : Var) (ws : List Var) → variable_order v u ≡ Less → put_in_order u (put_in_order v ws) ≡ put_in_order v (put_in_order u ws)
+swap_places v u [] e = rw (e, turned v u Less e) refl
+swap_places v u (w ∷ ws) e = by (is_lt (variable_order v w)) (is_lt (variable_order u w)) refl refl (swap_places v u ws e)
+  where
+    by : (a b : Bool) → is_lt (variable_order v w) ≡ a → is_lt (variable_order u w) ≡ b → put_in_order u (put_in_order v ws) ≡ put_in_order v (put_in_order u ws) → put_in_order u (cond a (v ∷ w ∷ ws) (w ∷ put_in_order v ws)) ≡ put_in_order v (cond b (u ∷ w ∷ ws) (w ∷ put_in_order u ws))
+    by true true f g h = rw (e, turned v u Less e, g) refl
+    by true false f g h = rw (turned v u Less e, g, f) refl
+    by false true f g h = absurd (true≢false (sym (ap is_lt (before_more v u w e (less (variable_order u w) g))) ∙ f))
+    by false false f g h = rw (f, g) (ap (λ us. w ∷ us) h)
+
+or_false : (b c : Bool) → b ≡ false → c ≡ false → (b || c) ≡ false
+or_false true c e f = absurd (true≢false e)
+or_false false c e f = f
+
+swap_new : (v u : Var) (ws : List Var) → variable_order v u ≡ Less → put_new u (put_new v ws) ≡ put_new v (put_new u ws)
+swap_new v u ws e = by (binds ws v) (binds ws u) refl refl
+  where
+    by : (a b : Bool) → binds ws v ≡ a → binds ws u ≡ b → put_new u (cond a ws (put_in_order v ws)) ≡ put_new v (cond b ws (put_in_order u ws))
+    by true true f g = rw (f, g) refl
+    by true false f g = rw (g, binds_put u ws v ∙ or_true (variable_eq u v) (binds ws v) f) refl
+    by false true f g = rw (f, binds_put v ws u ∙ or_true (variable_eq v u) (binds ws u) g) refl
+    by false false f g =
+        let no_u : binds (put_in_order v ws) u ≡ false = binds_put v ws u ∙ or_false (variable_eq v u) (binds ws u) (not_same u v Greater (turned v u Less e) refl) g in
+        let no_v : binds (put_in_order u ws) v ≡ false = binds_put u ws v ∙ or_false (variable_eq u v) (binds ws v) (not_same v u Less e refl) f in
+        rw (no_u, no_v) (swap_places v u ws e)
+
+first_or_last : (v : Var) (ws us : List Var) → IsBefore v us → put_all (put_new v ws) us ≡ put_new v (put_all ws us)
+first_or_last v ws [] h = refl
+first_or_last v ws (u ∷ us) h = ap (λ xs. put_all xs us) (swap_new v u ws h.0) ∙ first_or_last v (put_new u ws) us h.1
+
+put_placed : (ws us : List Var) (v : Var) → IsInOrder us → put_all ws (put_in_order v us) ≡ put_new v (put_all ws us)
+put_placed ws [] v h = refl
+put_placed ws (u ∷ us) v h = by (variable_order v u) refl (put_placed (put_new u ws) us v h.1)
+  where
+    by : (r : Ordering) → variable_order v u ≡ r → put_all (put_new u ws) (put_in_order v us) ≡ put_new v (put_all (put_new u ws) us) → put_all ws (cond (is_lt r) (v ∷ u ∷ us) (u ∷ put_in_order v us)) ≡ put_new v (put_all (put_new u ws) us)
+    by Less e k = first_or_last v ws (u ∷ us) (e, before_all v u us e h.0)
+    by Equal e k = k
+    by Greater e k = k
+
+put_one : (ws us : List Var) (v : Var) → IsInOrder us → put_all ws (put_new v us) ≡ put_new v (put_all ws us)
+put_one ws us v h = by (binds us v) refl
+  where
+    by : (b : Bool) → binds us v ≡ b → put_all ws (cond b us (put_in_order v us)) ≡ put_new v (put_all ws us)
+    by true e = rw (binds_all ws us v e) refl
+    by false e = put_placed ws us v h
+
+put_more : (ws us occ : List Var) → IsInOrder us → put_all ws (put_all us occ) ≡ put_all (put_all ws us) occ
+put_more ws us [] h = refl
+put_more ws us (v ∷ occ) h = put_more ws (put_new v us) occ (put_ordered v us h) ∙ ap (λ xs. put_all xs occ) (put_one ws us v h)
+
+pub put_sorted : (ws occ : List Var) → put_all ws (put_all [] occ) ≡ put_all ws occ
+put_sorted ws occ = put_more ws [] occ tt

@@ -39,6 +39,22 @@ pub(crate) fn put_free(
     }
 }
 
+/// Puts each of the variables in its place, unless it is there.
+pub(crate) fn put_each(
+    alloc: Global,
+    variables: &[Variable],
+    among: &mut Vec<Variable>,
+) -> Result<(), AllocError>
+    requires { IsInOrder among.old.items }
+    ensures put { OnOk result (among.new.items ≡ put_all among.old.items variables.now) }
+    ensures ordered { OnOk result (IsInOrder among.new.items) }
+{
+    for v in variables {
+        put_new(alloc, v, among)?;
+    }
+    Ok(())
+}
+
 // Puts the variable in its place, unless it is there.
 #[tactic(auto, using(crate::proofs::InOrder::put_ordered))]
 fn put_new(alloc: Global, v: &Variable, among: &mut Vec<Variable>) -> Result<(), AllocError>
@@ -92,12 +108,16 @@ fn count_below(alloc: Global, v: &Variable, among: &[Variable]) -> Result<usize,
     Ok(low)
 }
 
-// The order of variables: by the bytes of the names, then of the types' texts.
+// The order of variables: by the bytes of the names, then of the types' texts, which are written only where the types differ.
+#[tactic(auto, using(crate::proofs::InOrder::same_type))]
 fn variable_order(alloc: Global, v: &Variable, w: &Variable) -> Result<Ordering, AllocError>
     ensures { IfOk result (λ order. order ≡ variable_order v.now w.now) }
 {
     match v.name().order(w.name()) {
         Ordering::Equal => {
+            if v.ty().same(w.ty()) {
+                return Ok(Ordering::Equal);
+            }
             let left = show_type(alloc, v.ty())?;
             let right = show_type(alloc, w.ty())?;
             Ok(left.as_str().cmp(right.as_str()))
