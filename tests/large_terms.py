@@ -117,7 +117,7 @@ def deep_terms():
     yield Case("3,990 times ~", ["g N `" + "~" * 3_990 + "p`"], "goals")
     yield Case("4,091 times ~: too large", ["g N `" + "~" * 4_091 + "p`"], 13)
     yield Case("1,363 binders", ["g N `" + "!x. " * 1_363 + "x`"], "goals")
-    yield Case("1,800 variables of one binder", ["g N `!" + joined(" ", (f"x{k}" for k in range(1_800))) + ". T`"], "goals")
+    yield Case("2,200 variables of one binder", ["g N `!" + joined(" ", (f"x{k}" for k in range(2_200))) + ". T`"], "goals")
     yield Case("1,990 implications", ["g N `" + joined(" ==> ", ["p"] * 1_990) + "`"], "goals")
     yield Case("3,990 binders of \\", ["g N `P (\\" + "x " * 3_990 + ". (y:bool)) : bool`"], "goals")
     yield Case("2,400 binders of \\", ["g N `P (\\" + joined(" ", (f"x{k}" for k in range(2_400))) + ". (y:bool)) : bool`"], "goals")
