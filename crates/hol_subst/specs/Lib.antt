@@ -7,6 +7,7 @@ pub mod AlphaOrder
 pub mod CodeOrder
 pub mod Ordered
 pub mod FreeName
+pub mod Marks
 pub mod Capture
 pub mod Renaming
 pub mod Substituted

@@ -1,10 +1,13 @@
 //! Names for new free variables.
-ghost use Rattle.std.specs.Prelude.{◌≡◌, [], map, IfOk};
+ghost use Rattle.std.specs.Prelude.{◌≡◌, ◌≢◌, ℕ, [], map, not, length, get_or, true, false, ◌&&◌, ◌==◌, bytes_eq, IfOk, OnOk, MatchOption, IsTrue, ◌↔◌, ◌<◌, string_bytes};
 ghost use Rattle.hol_terms.specs.Nameless.{nameless};
+ghost use Rattle.hol_terms.specs.Primes.{with_primes};
 ghost use Rattle.hol_terms.specs.Scope.{binders};
+ghost use Rattle.hol_terms.specs.Scoped.{binds};
 ghost use Rattle.hol_subst.specs.FreeName.{has_name, is_taken, IsFreeName};
+ghost use Rattle.hol_subst.specs.Marks.{Marks};
 
-use hol_terms::{Scope, Term, TermNode};
+use hol_terms::{Scope, Term, TermNode, Variable};
 use hol_types::Name;
 use std::alloc::{AllocError, Global};
 
@@ -13,11 +16,11 @@ use std::alloc::{AllocError, Global};
 pub fn free_name(alloc: Global, avoid: &[Term], base: &Name) -> Result<Name, AllocError>
     ensures { IfOk result (λ r. IsFreeName (map (λ t. nameless [] t) avoid.now) base.now r) }
 {
-    let mut candidate = base.copy()?;
-    'primes: while is_taken(avoid, &candidate) {
-        candidate = candidate.primed(alloc)?;
+    if !is_taken(avoid, base) {
+        return base.copy();
     }
-    Ok(candidate)
+    let taken = taken_primes(alloc, avoid, base)?;
+    with_primes(alloc, base, first_free(&taken))
 }
 
 // Whether a free variable or a constant in one of the terms has the name.
@@ -43,4 +46,123 @@ fn has_name(term: &Term, scope: &Scope, name: &Name) -> bool
         TermNode::Comb(f, x) => has_name(f, scope, name) || has_name(x, scope, name),
         TermNode::Abs(v, b) => has_name(b, &Scope::Inside(v, &*scope), name),
     }
+}
+
+// Whether the base with k primes is the name of a free variable or of a constant in one of the terms, at each k: no longer than those
+// names are.
+fn taken_primes(alloc: Global, avoid: &[Term], base: &Name) -> Result<Vec<bool>, AllocError>
+    ensures { IfOk result (λ taken. Marks [] taken.items (λ k. is_taken (map (λ t. nameless [] t) avoid.now) (with_primes k base.now))) }
+{
+    let mut taken = Vec::new(alloc);
+    for term in avoid {
+        mark_names(term, &Scope::Outside, base, &mut taken)?;
+    }
+    Ok(taken)
+}
+
+// Marks for each free variable and each constant in a term, of which the binders were passed, how many primes after the base its name is.
+fn mark_names(
+    term: &Term,
+    scope: &Scope,
+    base: &Name,
+    taken: &mut Vec<bool>,
+) -> Result<(), AllocError>
+    ensures { OnOk result (Marks taken.old.items taken.new.items (λ k. has_name (with_primes k base.now) (nameless (binders scope.now) term.now))) }
+{
+    match term.node() {
+        TermNode::Var(v) => mark_variable(v, scope, base, taken),
+        TermNode::Const(c, _) => mark_name(c, base, taken),
+        TermNode::Comb(f, x) => {
+            mark_names(f, scope, base, taken)?;
+            mark_names(x, scope, base, taken)
+        }
+        TermNode::Abs(v, b) => mark_names(b, &Scope::Inside(v, &*scope), base, taken),
+    }
+}
+
+// The same for a variable, unless it is bound.
+fn mark_variable(
+    v: &Variable,
+    scope: &Scope,
+    base: &Name,
+    taken: &mut Vec<bool>,
+) -> Result<(), AllocError>
+    ensures { OnOk result (Marks taken.old.items taken.new.items (λ k. bytes_eq v.now.0 (with_primes k base.now) && not (binds (binders scope.now) v.now))) }
+{
+    match primes_after(v.name(), base) {
+        Some(primes) if !scope.binds(v) => mark(primes, taken),
+        Some(_) | None => Ok(()),
+    }
+}
+
+// The same for a name.
+fn mark_name(name: &Name, base: &Name, taken: &mut Vec<bool>) -> Result<(), AllocError>
+    ensures { OnOk result (Marks taken.old.items taken.new.items (λ k. bytes_eq name.now (with_primes k base.now))) }
+{
+    match primes_after(name, base) {
+        Some(primes) => mark(primes, taken),
+        None => Ok(()),
+    }
+}
+
+// Marks the place. The list grows as far as that takes.
+fn mark(place: usize, taken: &mut Vec<bool>) -> Result<(), AllocError>
+    ensures { OnOk result (Marks taken.old.items taken.new.items (λ k. k == place)) }
+{
+    if place < taken.len() {
+        taken[place] = true;
+        return Ok(());
+    }
+    taken.resize(place, false)?;
+    taken.push(true)?;
+    Ok(())
+}
+
+// How many primes the name has after the base, where it is the base with primes.
+fn primes_after(name: &Name, base: &Name) -> Option<usize>
+    ensures { MatchOption result ((k : ℕ) → name.now ≢ with_primes k base.now) (λ k. name.now ≡ with_primes k base.now) }
+{
+    let end = name
+        .as_str()
+        .as_bytes()
+        .strip_prefix(base.as_str().as_bytes())?;
+    if are_primes(end) {
+        Some(end.len())
+    } else {
+        None
+    }
+}
+
+// Whether all the bytes are primes: the first is one, and each other equals the one before it, which is seen many bytes at a time.
+fn are_primes(bytes: &[u8]) -> bool
+    ensures { IsTrue result ↔ (bytes.now ≡ with_primes (length bytes.now) []) }
+{
+    match bytes.split_first() {
+        Some((first, rest)) => *first == b'\'' && rest == &bytes[..rest.len()],
+        None => true,
+    }
+}
+
+// The place of the first that isn't taken, or how many there are.
+fn first_free(taken: &[bool]) -> usize
+    ensures all { (j : ℕ) → j < result → get_or taken.now j false ≡ true }
+    ensures first { get_or taken.now result false ≡ false }
+{
+    for (place, is_taken) in taken.iter().enumerate() {
+        if !*is_taken {
+            return place;
+        }
+    }
+    taken.len()
+}
+
+// The name with so many primes more at its end.
+fn with_primes(alloc: Global, base: &Name, primes: usize) -> Result<Name, AllocError>
+    ensures { IfOk result (λ name. name ≡ with_primes primes base.now) }
+{
+    let mut text = String::from_str(alloc, base.as_str())?;
+    for _i in 0..primes {
+        text.push_str("'")?;
+    }
+    Name::new(alloc, text.as_str())
 }
