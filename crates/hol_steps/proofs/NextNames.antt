@@ -34,8 +34,11 @@ module _ (base name : List ℕ) (h : HasPrimes base name) where
 -- with primes up to the first place after those of the name that isn't marked
 module _ (taken : List Bool) (base name next : List ℕ) (k place : ℕ) (is : name ≡ with_primes k base) (later : k + 1 ≤ place) (found : next ≡ with_primes (place - k) name)
     (marked : (j : ℕ) → k + 1 ≤ j → j < place → get_or taken j false ≡ true) (first : get_or taken place false ≡ false) where
+  next_is : next ≡ with_primes place base
+  next_is = found ∙ ap (with_primes (place - k)) is ∙ primes_sum (place - k) k base ∙ primes_are (place - k + k) place base (omega (arith, later))
+
   pub next_has : HasPrimes base next
-  next_has = (place, found ∙ ap (with_primes (place - k)) is ∙ primes_sum (place - k) k base ∙ primes_are (place - k + k) place base (omega (arith, later)))
+  next_has = (place, next_is)
 
   no_other : (avoid : List Nameless) → Marks [] taken (λ j. is_taken avoid (with_primes j base)) → (j : ℕ) → is_taken avoid (with_primes j base) ≡ get_or taken j false
   no_other avoid marks j = sym (marks j ∙ ap (λ b. b || is_taken avoid (with_primes j base)) (get_or_past [] j false (omega arith)))
@@ -44,7 +47,7 @@ module _ (taken : List Bool) (base name next : List ℕ) (k place : ℕ) (is : n
   next_free avoid marks = record {
     primes = place - (k + 1);
     is = found ∙ primes_are (place - k) (suc (place - (k + 1))) name (omega (arith, later)) ∙ sym (primes_first (place - (k + 1)) name);
-    fresh = λ t. let clash : true ≡ false = sym t ∙ ap (is_taken avoid) next_has.1 ∙ no_other avoid marks place ∙ first in absurd (cc);
+    fresh = λ t. let clash : true ≡ false = sym t ∙ ap (is_taken avoid) next_is ∙ no_other avoid marks place ∙ first in absurd (cc);
     least = λ j l.
         ap (is_taken avoid) (primes_first j name ∙ ap (with_primes (suc j)) is ∙ primes_sum (suc j) k base)
         ∙ no_other avoid marks (suc j + k)
