@@ -77,9 +77,9 @@ module _ {X : Type 0} (f : X → List (List ℕ)) where
           ∙ ap (list_any (bytes_eq a)) (get_or-set_same (map f places) i (f new) [] (let same = length-map places f in let few = inside in omega (arith, same, few)) ∙ more)
           ∙ list_any-append (bytes_eq a) (f old) (name ∷ [])
           ∙ ap (λ b. b || list_any (bytes_eq a) (name ∷ [])) (
-              ap (list_any (bytes_eq a)) (sym (at_place places i old inside was))
-              ∙ ap (λ (j : ℕ). list_any (bytes_eq a) (get_or (map f places) j [])) (sym e.1)
-              ∙ placed.found a)
+          ap (list_any (bytes_eq a)) (sym (at_place places i old inside was))
+          ∙ ap (λ (j : ℕ). list_any (bytes_eq a) (get_or (map f places) j [])) (sym e.1)
+          ∙ placed.found a)
           ∙ sym (all a))
       | inr e ↦ (
           ap (list_any (bytes_eq a)) (get_or-set_other (map f places) i (place_of a) (f new) [] e.1)

@@ -48,7 +48,7 @@ returns-then-not-has-clause-is c =
     let told : c.add_copy.new.to.items ≡ c.in_ok-name.name ∷ [] = search rules in
     let none : stands c.args.names.now c.in_ok-name.name ≡ false = search rules in
     λ others alike. ends_at c.args.names.now others c.args.base.now c.in_ok-name.name c.add_copy.new.to.items
-        (begins_at c.args.names.now others c.args.base.now c.in_ok-name.name c.add_copy.new.to.items (free_of_all avoid c.args.base.now c.in_ok-name.name c.in_ok-name.ensures others alike) told) none
+    (begins_at c.args.names.now others c.args.base.now c.in_ok-name.name c.add_copy.new.to.items (free_of_all avoid c.args.base.now c.in_ok-name.name c.in_ok-name.ensures others alike) told) none
 
 pub returns-clause-is : goal.returns-clause-is
 returns-clause-is c =
