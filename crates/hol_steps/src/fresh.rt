@@ -71,7 +71,7 @@ fn fresh_name(
     if !names.has(name.as_str()) {
         return Ok(FreshName { name, tested });
     }
-    let taken = taken_primes(alloc, avoid, base)?;
+    let taken = taken_primes(alloc, avoid, base.as_str())?;
     'primes: while names.has(name.as_str()) {
         name = next_name(alloc, &taken, base, &name)?;
         add_copy(&mut tested, &name)?;

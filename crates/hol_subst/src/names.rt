@@ -48,9 +48,9 @@ fn has_name(term: &Term, scope: &Scope, name: &Name) -> bool
     }
 }
 
-// Whether the base with k primes is the name of a free variable or of a constant in one of the terms, at each k: no longer than those
-// names are.
-fn taken_primes(alloc: Global, avoid: &[Term], base: &str) -> Result<Vec<bool>, AllocError>
+/// Whether the base with k primes is the name of a free variable or of a constant in one of the terms, at each k: no longer than those
+/// names are.
+pub fn taken_primes(alloc: Global, avoid: &[Term], base: &str) -> Result<Vec<bool>, AllocError>
     ensures { IfOk result (λ taken. Marks [] taken.items (λ k. is_taken (map (λ t. nameless [] t) avoid.now) (with_primes k base.now))) }
 {
     let mut taken = Vec::new(alloc);
@@ -153,8 +153,8 @@ fn first_free(taken: &[bool]) -> usize
     taken.len()
 }
 
-// The name with so many primes more at its end.
-fn with_primes(alloc: Global, base: &Name, primes: usize) -> Result<Name, AllocError>
+/// The name with so many primes more at its end.
+pub fn with_primes(alloc: Global, base: &Name, primes: usize) -> Result<Name, AllocError>
     ensures { IfOk result (λ name. name ≡ with_primes primes base.now) }
 {
     let mut text = String::from_str(alloc, base.as_str())?;
