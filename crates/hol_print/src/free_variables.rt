@@ -115,12 +115,12 @@ fn count_below(alloc: Global, v: &Variable, among: &[Variable]) -> Result<usize,
 #[tactic(auto, using(crate::proofs::InOrder::after_last))]
 fn is_after_last(alloc: Global, v: &Variable, among: &[Variable]) -> Result<bool, AllocError>
     requires { IsInOrder among.now }
-    ensures { IfOk result (λ b. b ≡ true → IsAfter v.now among.now) }
+    ensures { IfOk result (λ b. b ≡ true → IsAfter v.now (take (length among.now) among.now)) }
 {
-    match among.last() {
-        Some(last) => Ok(variable_order(alloc, v, last)?.is_gt()),
-        None => Ok(true),
+    if among.is_empty() {
+        return Ok(true);
     }
+    Ok(variable_order(alloc, v, &among[among.len() - 1])?.is_gt())
 }
 
 // The order of variables: by the bytes of the names, then of the types' texts, which are written only where the types differ.

@@ -80,7 +80,7 @@ impl<'a> ShownTerms<'a> {
         ensures ordered { OnOk result (IsInOrder among.new.items) }
     {
         for (i, t) in assumptions.iter().enumerate() {
-            self.put_free(alloc, t, older + (assumptions.len() - i), among)?;
+            self.put_free(alloc, t, older.saturating_add(assumptions.len() - i), among)?;
         }
         Ok(())
     }
