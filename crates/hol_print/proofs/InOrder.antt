@@ -1,5 +1,5 @@
 -- Variables put in their places.
-use Rattle.std.proofs.Common.{◌≡◌, ℕ, zero, suc, ◌+◌, ◌-◌, ◌<◌, ◌≤◌, List, [], ◌∷◌, ◌++◌, take, drop, length, get_or, insert, map, Bool, true, false, cond, ◌||◌, refl, sym, ap, subst, ◌∙◌, true≢false, add-one, drop-cons, take-append-drop, drop_of_length-le, take_all, length-drop, is_lt, is_gt, is_eq, arith}
+use Rattle.std.proofs.Common.{◌≡◌, ℕ, zero, suc, ◌+◌, ◌-◌, ◌<◌, ◌≤◌, List, [], ◌∷◌, ◌++◌, take, drop, length, get_or, insert, map, Bool, true, false, cond, ◌||◌, refl, sym, ap, subst, ◌∙◌, true≢false, add-one, drop-cons, take-append-drop, drop_of_length-le, take_all, is_lt, is_gt, is_eq, arith}
 use Rattle.std.specs.Cmp.{IsTotalOrder, then_total, on_total, upto, tied_itself}
 use Rattle.std.specs.Cmp.Lexicographic.{nat_list_cmp_total}
 use Rattle.std.specs.Ordering.{ordering_reverse}
@@ -327,6 +327,3 @@ pub common_put : (ws : List Var) (n : ℕ) (asl common : List Named) → drop n 
 common_put ws zero asl common e = put_terms_from ws (map (nameless []) asl) ∙ ap (λ ts. put_all ws (put_terms [] (map (nameless []) ts))) e
 common_put ws (suc n) [] common e = ap (λ ts. put_all ws (put_terms [] (map (nameless []) ts))) e
 common_put ws (suc n) (t ∷ asl) common e = common_put (put_all ws (free_variables (nameless [] t))) n asl common e
-
-pub common_end : (asl : List Named) (n : ℕ) → n ≤ length asl → drop (length asl - length (drop (length asl - n) asl)) asl ≡ drop (length asl - n) asl
-common_end asl n h = ap (λ k. drop k asl) (ap (λ k. length asl - k) (length-drop (length asl - n) asl) ∙ omega (arith, h))
