@@ -5,7 +5,7 @@ use crate::written::Written;
 use hol_formulas::{mk_disj, mk_truth};
 use hol_kernel::{Basis, KernelError, Thm, TypeDefinition};
 use hol_notation_tokens::lex;
-use hol_print::{ShownTerms, show_goal};
+use hol_print::{ShownBefore, show_goal};
 use hol_terms::Term;
 use hol_types::{Name, Ty};
 use std::alloc::{AllocError, Global};
@@ -20,7 +20,7 @@ fn is_disjunction(alloc: Global, t: &Term) -> Result<bool, AllocError> {
 
 // Whether the copy of the term as a shown goal has this text, and no free variable.
 fn is_shown(alloc: Global, t: &Term, text: &str) -> Result<bool, AllocError> {
-    let shown = show_goal(alloc, &[], t, &mut ShownTerms::new(alloc))?;
+    let shown = show_goal(alloc, &[], t, &mut ShownBefore::new(alloc))?;
     let copy = shown.copy(alloc)?;
     Ok(copy.goal.as_str() == text && copy.free.is_empty())
 }

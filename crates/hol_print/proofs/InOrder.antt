@@ -1,5 +1,5 @@
 -- Variables put in their places.
-use Rattle.std.proofs.Common.{◌≡◌, ℕ, zero, suc, ◌+◌, ◌<◌, ◌≤◌, List, [], ◌∷◌, ◌++◌, take, drop, length, get_or, insert, Bool, true, false, cond, ◌||◌, refl, sym, ap, subst, ◌∙◌, true≢false, add-one, drop-cons, take-append-drop, drop_of_length-le, take_all, is_lt, is_gt, is_eq, arith}
+use Rattle.std.proofs.Common.{◌≡◌, ℕ, zero, suc, ◌+◌, ◌-◌, ◌<◌, ◌≤◌, List, [], ◌∷◌, ◌++◌, take, drop, length, get_or, insert, map, Bool, true, false, cond, ◌||◌, refl, sym, ap, subst, ◌∙◌, true≢false, add-one, drop-cons, take-append-drop, drop_of_length-le, take_all, is_lt, is_gt, is_eq, arith}
 use Rattle.std.specs.Cmp.{IsTotalOrder, then_total, on_total, upto, tied_itself}
 use Rattle.std.specs.Cmp.Lexicographic.{nat_list_cmp_total}
 use Rattle.std.specs.Ordering.{ordering_reverse}
@@ -9,11 +9,12 @@ use Rattle.hol_types.specs.Tree.{TypeTree}
 use Rattle.hol_types.specs.Order.{name_cmp}
 use Rattle.hol_types.specs.Equal.{variable_eq}
 use Rattle.hol_types.proofs.Names.{or_swap}
-use Rattle.hol_terms.specs.Nameless.{Nameless, free_occurrences}
+use Rattle.hol_terms.specs.Named.{Named}
+use Rattle.hol_terms.specs.Nameless.{Nameless, nameless, free_occurrences}
 use Rattle.hol_terms.specs.Scoped.{binds, add_new, add_all}
 use Rattle.hol_terms.proofs.Same.{variable_eq_decides}
 use Rattle.hol_print.specs.ShowType.{show_type}
-use Rattle.hol_print.specs.ShowGoal.{variable_order, put_in_order, put_new, put_all, free_variables}
+use Rattle.hol_print.specs.ShowGoal.{variable_order, put_in_order, put_new, put_all, put_terms, free_variables}
 use Rattle.hol_print.specs.InOrder.{IsNotAfter, IsInOrder, IsAfter}
 
 abbrev Var : Type 0
@@ -114,6 +115,15 @@ after_suc v (u ∷ ws) (suc i) w h l e g =
 
 pub after_more : (v : Var) (ws : List Var) (i : ℕ) (w : Var) → IsInOrder ws → i < length ws → w ≡ get_or ws i w → variable_order v w ≡ Greater → IsAfter v (take (i + 1) ws)
 after_more v ws i w h l e g = rw add-one (after_suc v ws i w h l e g)
+
+greater : (r : Ordering) → is_gt r ≡ true → r ≡ Greater
+greater Less e = absurd (true≢false (sym e))
+greater Equal e = absurd (true≢false (sym e))
+greater Greater e = refl
+
+pub after_last : (v : Var) (ws : List Var) (w : Var) → IsInOrder ws → w ≡ get_or ws (length ws - 1) w → is_gt (variable_order v w) ≡ true → IsAfter v (take (length ws) ws)
+after_last v [] w h e g = tt
+after_last v (u ∷ ws) w h e g = after_suc v (u ∷ ws) (length ws) w h (omega arith) (e ∙ ap (λ k. get_or (u ∷ ws) k w) (omega arith)) (greater (variable_order v w) g)
 
 -- ---- going through
 
@@ -299,3 +309,21 @@ put_more ws us (v ∷ occ) h = put_more ws (put_new v us) occ (put_ordered v us 
 
 pub put_sorted : (ws occ : List Var) → put_all ws (put_all [] occ) ≡ put_all ws occ
 put_sorted ws occ = put_more ws [] occ tt
+
+-- ---- assumptions that goals have in common
+
+put_all_ordered : (ws us : List Var) → IsInOrder ws → IsInOrder (put_all ws us)
+put_all_ordered ws [] h = h
+put_all_ordered ws (u ∷ us) h = put_all_ordered (put_new u ws) us (put_ordered u ws h)
+
+put_terms_from : (ws : List Var) (ts : List Nameless) → put_terms ws ts ≡ put_all ws (put_terms [] ts)
+put_terms_from ws [] = refl
+put_terms_from ws (t ∷ ts) =
+    let occ : List Var = free_variables t in
+    let us : List Var = put_terms [] ts in
+    put_terms_from (put_all ws occ) ts ∙ ap (λ xs. put_all xs us) (sym (put_sorted ws occ)) ∙ sym (put_more ws (put_all [] occ) us (put_all_ordered [] occ tt)) ∙ ap (put_all ws) (sym (put_terms_from (put_all [] occ) ts))
+
+pub common_put : (ws : List Var) (n : ℕ) (asl common : List Named) → drop n asl ≡ common → put_terms ws (map (nameless []) asl) ≡ put_all (put_terms ws (map (nameless []) (take n asl))) (put_terms [] (map (nameless []) common))
+common_put ws zero asl common e = put_terms_from ws (map (nameless []) asl) ∙ ap (λ ts. put_all ws (put_terms [] (map (nameless []) ts))) e
+common_put ws (suc n) [] common e = ap (λ ts. put_all ws (put_terms [] (map (nameless []) ts))) e
+common_put ws (suc n) (t ∷ asl) common e = common_put (put_all ws (free_variables (nameless [] t))) n asl common e

@@ -1,5 +1,5 @@
 //! The free variables of a goal, each once, in order: a variable's place among them is found by halves.
-ghost use Rattle.std.specs.Prelude.{◌≡◌, ◌≤◌, OnOk, IfOk, MatchOption, length, take};
+ghost use Rattle.std.specs.Prelude.{◌≡◌, ◌≤◌, OnOk, IfOk, MatchOption, length, take, true};
 ghost use Rattle.std.specs.List.{insert};
 ghost use Rattle.hol_terms.specs.Nameless.{nameless, free_occurrences};
 ghost use Rattle.hol_terms.specs.Scope.{binders};
@@ -96,6 +96,9 @@ fn count_below(alloc: Global, v: &Variable, among: &[Variable]) -> Result<usize,
     requires { IsInOrder among.now }
     ensures { IfOk result (λ n. (n ≤ length among.now) × IsAfter v.now (take n among.now)) }
 {
+    if is_after_last(alloc, v, among)? {
+        return Ok(among.len());
+    }
     let mut low = 0;
     let mut high = among.len();
     'halves: while low < high {
@@ -106,6 +109,18 @@ fn count_below(alloc: Global, v: &Variable, among: &[Variable]) -> Result<usize,
         }
     }
     Ok(low)
+}
+
+// Whether the variable comes after the last, and so after all.
+#[tactic(auto, using(crate::proofs::InOrder::after_last))]
+fn is_after_last(alloc: Global, v: &Variable, among: &[Variable]) -> Result<bool, AllocError>
+    requires { IsInOrder among.now }
+    ensures { IfOk result (λ b. b ≡ true → IsAfter v.now (take (length among.now) among.now)) }
+{
+    if among.is_empty() {
+        return Ok(true);
+    }
+    Ok(variable_order(alloc, v, &among[among.len() - 1])?.is_gt())
 }
 
 // The order of variables: by the bytes of the names, then of the types' texts, which are written only where the types differ.

@@ -11,6 +11,7 @@ mod names;
 mod notation;
 mod primed_name;
 mod shape;
+mod shown_before;
 mod shown_goal;
 mod shown_names;
 mod shown_terms;
@@ -20,7 +21,7 @@ mod type_text;
 
 pub use goal_text::show_goal;
 pub use laws::shown_names_have_fewest_primes;
+pub use shown_before::ShownBefore;
 pub use shown_goal::ShownGoal;
-pub use shown_terms::ShownTerms;
 pub use term_text::show_term;
 pub use type_text::show_type;

@@ -1,8 +1,8 @@
-//! The terms that were shown, so that a larger one that comes again is not written again.
-ghost use Rattle.std.specs.Prelude.{◌≡◌, [], IfOk, IfSome, IsTrue, OnOk, Some, slice_get, string_bytes};
+//! The larger terms that were shown, none of which is written again where it comes again.
+ghost use Rattle.std.specs.Prelude.{◌≡◌, [], IfOk, IfSome, IsTrue, OnOk, Some, map, slice_get, string_bytes};
 ghost use Rattle.hol_terms.specs.Nameless.{nameless};
 ghost use Rattle.hol_print.specs.ShowTerm.{show};
-ghost use Rattle.hol_print.specs.ShowGoal.{put_all, free_variables};
+ghost use Rattle.hol_print.specs.ShowGoal.{put_all, put_terms, free_variables};
 ghost use Rattle.hol_print.specs.InOrder.{IsInOrder};
 
 use crate::free_variables::{put_each, put_free};
@@ -14,9 +14,9 @@ use std::marker::Model;
 // A smaller term is written as soon as found.
 const LEAST_SIZE: u32 = 16;
 
-/// The larger terms of the goals that were shown, with what was shown of them.
+/// The larger terms of goals that were shown, with what goals show of them.
 #[derive(Drop)]
-pub struct ShownTerms<'a> {
+pub(crate) struct ShownTerms<'a> {
     terms: Vec<ShownTerm<'a>>,
     // which of them stood last at each place in a goal
     at_places: Vec<usize>,
@@ -24,35 +24,65 @@ pub struct ShownTerms<'a> {
 
 impl<'a> ShownTerms<'a> {
     /// None yet.
-    pub fn new(alloc: Global) -> ShownTerms<'a> {
+    pub(crate) fn new(alloc: Global) -> ShownTerms<'a> {
         ShownTerms {
             terms: Vec::new(alloc),
             at_places: Vec::new(alloc),
         }
     }
 
-    /// The text of the term at a place in a goal, the conclusion's or an assumption's, counted from the oldest. Puts each of its free
-    /// variables in its place, unless it is there.
+    /// The text of the term at a place in a goal: the conclusion's, 0, or an assumption's, counted from the oldest.
+    pub(crate) fn text(
+        &mut self,
+        alloc: Global,
+        t: &'a Term,
+        place: usize,
+    ) -> Result<String, AllocError>
+        ensures { IfOk result (λ text. string_bytes text ≡ show (nameless [] t.now)) }
+    {
+        if t.size() < LEAST_SIZE {
+            return show_term(alloc, t);
+        }
+        let at = self.find_or_add(alloc, t, place)?;
+        self.terms[at].text(alloc)
+    }
+
+    /// Puts each free variable of the term at a place in a goal in its own place, unless it is there.
     #[tactic(auto, using(crate::proofs::InOrder::put_once))]
-    pub(crate) fn show(
+    pub(crate) fn put_free(
         &mut self,
         alloc: Global,
         t: &'a Term,
         place: usize,
         among: &mut Vec<Variable>,
-    ) -> Result<String, AllocError>
+    ) -> Result<(), AllocError>
         requires { IsInOrder among.old.items }
-        ensures text { IfOk result (λ text. string_bytes text ≡ show (nameless [] t.now)) }
         ensures put { OnOk result (among.new.items ≡ put_all among.old.items (free_variables (nameless [] t.now))) }
         ensures ordered { OnOk result (IsInOrder among.new.items) }
     {
         if t.size() < LEAST_SIZE {
-            put_free(alloc, t, &Scope::Outside, among)?;
-            return show_term(alloc, t);
+            return put_free(alloc, t, &Scope::Outside, among);
         }
         let at = self.find_or_add(alloc, t, place)?;
-        set_at(&mut self.at_places, place, at)?;
-        self.terms[at].show(alloc, among)
+        self.terms[at].put_free(alloc, among)
+    }
+
+    /// The same for assumptions, the newest first, so many of which are older than these.
+    pub(crate) fn put_assumptions(
+        &mut self,
+        alloc: Global,
+        assumptions: &'a [Term],
+        older: usize,
+        among: &mut Vec<Variable>,
+    ) -> Result<(), AllocError>
+        requires { IsInOrder among.old.items }
+        ensures put { OnOk result (among.new.items ≡ put_terms among.old.items (map (nameless []) assumptions.now)) }
+        ensures ordered { OnOk result (IsInOrder among.new.items) }
+    {
+        for (i, t) in assumptions.iter().enumerate() {
+            self.put_free(alloc, t, older.saturating_add(assumptions.len() - i), among)?;
+        }
+        Ok(())
     }
 
     // Where the term is, which is put at the end if it is found nowhere.
@@ -60,10 +90,12 @@ impl<'a> ShownTerms<'a> {
         ensures { IfOk result (λ at. slice_get self.new.terms.items at ≡ Some t.now) }
     {
         if let Some(at) = self.find(t, place) {
+            set_at(&mut self.at_places, place, at)?;
             return Ok(at);
         }
         let at = self.terms.len();
         self.terms.push(ShownTerm::new(alloc, t)?)?;
+        set_at(&mut self.at_places, place, at)?;
         Ok(at)
     }
 
@@ -147,15 +179,20 @@ impl<'a> ShownTerm<'a> {
         })
     }
 
-    // Its text. Puts its free variables in their places.
+    // Its text.
+    fn text(&self, alloc: Global) -> Result<String, AllocError>
+        ensures { IfOk result (λ text. string_bytes text ≡ show (nameless [] self.now)) }
+    {
+        String::from_str(alloc, self.text.as_str())
+    }
+
+    // Puts its free variables in their places.
     #[tactic(auto, using(crate::proofs::InOrder::put_once, crate::proofs::InOrder::put_sorted))]
-    fn show(&self, alloc: Global, among: &mut Vec<Variable>) -> Result<String, AllocError>
+    fn put_free(&self, alloc: Global, among: &mut Vec<Variable>) -> Result<(), AllocError>
         requires { IsInOrder among.old.items }
-        ensures text { IfOk result (λ text. string_bytes text ≡ show (nameless [] self.now)) }
         ensures put { OnOk result (among.new.items ≡ put_all among.old.items (free_variables (nameless [] self.now))) }
         ensures ordered { OnOk result (IsInOrder among.new.items) }
     {
-        put_each(alloc, &self.free, among)?;
-        String::from_str(alloc, self.text.as_str())
+        put_each(alloc, &self.free, among)
     }
 }

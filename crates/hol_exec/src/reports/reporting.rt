@@ -9,7 +9,7 @@ use crate::reports::report::Report;
 use crate::running::{Change, Outcome};
 use crate::state::{NewEntries, State};
 use hol_goal::Goal;
-use hol_print::{ShownGoal, ShownTerms, show_goal, show_term, show_type};
+use hol_print::{ShownBefore, ShownGoal, show_goal, show_term, show_type};
 use hol_stack::Element;
 use hol_theory::{Key, Value, ValueNode};
 use std::alloc::{AllocError, Global};
@@ -52,10 +52,10 @@ fn shown_goals(alloc: Global, goals: &[Goal]) -> Result<Vec<ShownGoal>, AllocErr
     ensures { IfOk result (λ shown. map goal_text shown.items ≡ map shown_goal goals.now) }
 {
     let mut shown = Vec::with_capacity(alloc, goals.len())?;
-    let mut terms = ShownTerms::new(alloc);
+    let mut before = ShownBefore::new(alloc);
     for goal in goals {
         let assumptions = goal.assumptions();
-        shown.push(show_goal(alloc, assumptions, goal.conclusion(), &mut terms)?)?;
+        shown.push(show_goal(alloc, assumptions, goal.conclusion(), &mut before)?)?;
     }
     Ok(shown)
 }
