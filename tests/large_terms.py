@@ -117,7 +117,7 @@ def deep_terms():
     yield Case("3,990 times ~", ["g N `" + "~" * 3_990 + "p`"], "goals")
     yield Case("4,091 times ~: too large", ["g N `" + "~" * 4_091 + "p`"], 13)
     yield Case("1,363 binders", ["g N `" + "!x. " * 1_363 + "x`"], "goals")
-    yield Case("1,800 variables of one binder", ["g N `!" + joined(" ", (f"x{k}" for k in range(1_800))) + ". T`"], "goals")
+    yield Case("2,200 variables of one binder", ["g N `!" + joined(" ", (f"x{k}" for k in range(2_200))) + ". T`"], "goals")
     yield Case("1,990 implications", ["g N `" + joined(" ==> ", ["p"] * 1_990) + "`"], "goals")
     yield Case("3,990 binders of \\", ["g N `P (\\" + "x " * 3_990 + ". (y:bool)) : bool`"], "goals")
     yield Case("2,400 binders of \\", ["g N `P (\\" + joined(" ", (f"x{k}" for k in range(2_400))) + ". (y:bool)) : bool`"], "goals")
@@ -212,6 +212,8 @@ def deep_runs():
     xs, ys = (joined(" ", (f"{name}{k}" for k in range(1_300))) for name in "xy")
     opened = [f"new_axiom AX `(Q {xs}) ==> (P {xs})`", f"g N `(P {ys}):bool`", "e MATCH_MP_TAC AX"]
     yield Case("a theorem of 1,300 open types that matches", opened, "goals")
+    alike = ["new_axiom AX `!" + "x " * 2_000 + ". P x ==> Q`", "g N `Q:bool`", "e MATCH_MP_TAC AX"]
+    yield Case("2,000 binders of one name, each called by another", alike, "goals")
     rule = [f"new_axiom AX `!p. {'~' * 1_900}p <=> p`", f"g N `{'~' * 3_800}p`", "e REWRITE_TAC [AX]"]
     yield Case("a rule of 1,900 times ~", rule, "goals")
     step = "new_definition D `twice p = ~ ~ p`"

@@ -3,6 +3,7 @@ pub mod Formulas
 pub mod Achieves
 pub mod Names
 pub mod NamesView
+pub mod NamePlaces
 pub mod Answer
 pub mod UsedView
 pub mod TacNames

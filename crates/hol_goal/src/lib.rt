@@ -5,6 +5,7 @@
 
 mod goal;
 mod lists;
+mod name_part;
 mod names;
 mod tac_args;
 mod tac_code;

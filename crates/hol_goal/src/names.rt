@@ -5,6 +5,7 @@ ghost use Rattle.std.specs.Option.{option_map, unwrap_or};
 ghost use Rattle.hol_formulas.specs.Constants.{prelude_constants};
 ghost use Rattle.hol_goal.specs.Names.{stands};
 
+use crate::name_part::NamePart;
 use hol_types::Name;
 use std::alloc::{AllocError, Global};
 use std::marker::Model;
@@ -16,7 +17,7 @@ const PART_LEN: usize = 64;
 /// The names of a theory's constants, in the order in which these were made, in parts that copies share. Those of the prelude's constants aren't among them.
 #[derive(Drop)]
 pub struct Names {
-    parts: Vec<Rc<Vec<Name>>>,
+    parts: Vec<Rc<NamePart>>,
 }
 
 impl Model for Names {
@@ -28,7 +29,7 @@ impl Model for Names {
 
     ghost coded = { coded_list (coded_list coded_ℕ) };
 
-    ghost view = { λ n. all_names (map (λ part. part.value.items) n.parts.items) };
+    ghost view = { λ n. all_names (map (λ part. part.value) n.parts.items) };
 }
 
 impl Names {
@@ -64,7 +65,7 @@ impl Names {
         ensures { result ≡ list_any (bytes_eq name.now) self.now }
     {
         for part in &self.parts {
-            if is_one_of(name, part.as_slice()) {
+            if part.has(name) {
                 return true;
             }
         }
@@ -86,7 +87,7 @@ impl Names {
     // Whether the last two parts have as many names. They are made one, and so the number of parts grows by the logarithm of that of the names.
     fn ends_evenly(&self) -> bool {
         let len = self.parts.len();
-        len > 1 && self.parts[len - 2].len() == self.parts[len - 1].len()
+        len > 1 && self.parts[len - 2].names().len() == self.parts[len - 1].names().len()
     }
 
     // Makes the last two parts one.
@@ -103,16 +104,17 @@ impl Names {
     fn put(&mut self, alloc: Global, part: Vec<Name>) -> Result<(), AllocError>
         ensures { OnOk result (self.new ≡ self.old ++ part.items) }
     {
+        let part = NamePart::new(alloc, part)?;
         self.parts.push(Rc::new(alloc, part)?)?;
         Ok(())
     }
 
     // Takes out the last part, where it gets more.
-    fn take_short(&mut self) -> Option<Rc<Vec<Name>>>
-        ensures { self.old ≡ self.new ++ unwrap_or (option_map (λ part. part.value.items) result) [] }
+    fn take_short(&mut self) -> Option<Rc<NamePart>>
+        ensures { self.old ≡ self.new ++ unwrap_or (option_map (λ part. part.value) result) [] }
     {
         let last = self.parts.pop()?;
-        if last.len() < PART_LEN {
+        if last.names().len() < PART_LEN {
             return Some(last);
         }
         self.parts.push_reserved(last);
@@ -120,8 +122,8 @@ impl Names {
     }
 
     // Takes out the last part, if there is one.
-    fn take_last(&mut self) -> Option<Rc<Vec<Name>>>
-        ensures { self.old ≡ self.new ++ unwrap_or (option_map (λ part. part.value.items) result) [] }
+    fn take_last(&mut self) -> Option<Rc<NamePart>>
+        ensures { self.old ≡ self.new ++ unwrap_or (option_map (λ part. part.value) result) [] }
     {
         let last = self.parts.pop()?;
         Some(last)
@@ -140,20 +142,13 @@ impl Names {
 }
 
 // The names in a part, if there is one.
-fn names_in(part: &Option<Rc<Vec<Name>>>) -> &[Name]
-    ensures { result.now ≡ unwrap_or (option_map (λ part. part.value.items) part.now) [] }
+fn names_in(part: &Option<Rc<NamePart>>) -> &[Name]
+    ensures { result.now ≡ unwrap_or (option_map (λ part. part.value) part.now) [] }
 {
     match part {
-        Some(part) => part.as_slice(),
+        Some(part) => part.names(),
         None => &[],
     }
-}
-
-// Whether the name is one of the list.
-fn is_one_of(name: &str, list: &[Name]) -> bool
-    ensures { result ≡ list_any (bytes_eq name.now) list.now }
-{
-    list.iter().any(|listed| name == listed.as_str())
 }
 
 // Whether a constant of the prelude has the name.

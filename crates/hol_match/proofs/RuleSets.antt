@@ -60,26 +60,6 @@ entry_at (s ∷ rules) (suc i) r l e = entry_at rules i r (omega (arith, l)) e
 pub is_fit : (rules : List SetRule) (t : Nameless) (i : ℕ) (r : SetRule) (a : InstanceValue) → i < length rules → r ≡ get_or rules i r → IsTypedRule (set_rule r).rule → IsMatch (set_rule r).stays (set_rule r).rule.left t a → IsFit (set_rules rules) t (i, a)
 is_fit rules t i r a l e h m = record { entry = set_rule r; is = entry_at rules i r l e; typed = h; matches = m }
 
--- the rules es are there, and those of the rest are all that is missing
-abbrev pub Goes : List Sequent → ℕ → List Sequent → List RuleEntry → Type 0
-Goes all i rest es = rule_entries 0 all ≡ es ++ rule_entries i rest
-
-pub goes_first : (all : List Given) → Goes (map given_sequent all) 0 (map given_sequent (drop 0 all)) []
-goes_first [] = refl
-goes_first (g ∷ all) = refl
-
-pub goes_next : (thms : List Given) (all : List Sequent) (es new : List RuleEntry) (i : ℕ) (g : Given) → i < length thms → g ≡ get_or thms i g → Goes all i (map given_sequent (drop i thms)) es → Adds i (given_sequent g) es new → Goes all (i + 1) (map given_sequent (drop (i + 1) thms)) new
-goes_next thms all es new i g l e h a =
-    let s = given_sequent g in
-    let rest = rule_entries (i + 1) (map given_sequent (drop (i + 1) thms)) in
-    h ∙ ap (λ ts. es ++ rule_entries i (map given_sequent ts)) (next_of thms i g l e)
-    ∙ sym (append_assoc es (entries i 0 (stays_of (listed s.hyps)) (rules_of (listed s.hyps) s.concl)) rest) ∙ ap (λ xs. xs ++ rest) (sym a)
-
-pub goes_last : (all : List Sequent) (thms : List Given) (i : ℕ) (es : List RuleEntry) → length thms ≤ i → Goes all i (map given_sequent (drop i thms)) es → es ≡ rule_entries 0 all
-goes_last all thms i es l h = sym (h ∙ ap (λ ts. es ++ rule_entries i (map given_sequent ts)) (drop_all i thms l) ∙ append-nil es)
-
-pub ruleset going = (goes_first, goes_next, goes_last)
-
 -- ---- what one theorem adds
 pub one_ordered : (ps : List Named) (p : Named) → ps ≡ p ∷ [] → IsStrictlySortedBy nameless_cmp (map hyp_of ps)
 one_ordered = ordered_one

@@ -25,6 +25,10 @@ abbrev pub contractum : List TypeTree → List RuleEntry → Nameless → Option
 contractum env [] t = None
 contractum env (e ∷ es) t = option_or (contracted env e t) (contractum env es t)
 
+-- what the rules make of each term
+abbrev pub contracta : List RuleEntry → List TypeTree → Nameless → Option Nameless
+contracta rules env t = contractum env rules t
+
 -- ---- terms that no rule matches anywhere
 
 -- no rule matches the term, whatever binders it stands under

@@ -22,6 +22,10 @@ set_rules rules = map set_rule rules
 abbrev pub Adds : ℕ → Sequent → List RuleEntry → List RuleEntry → Type 0
 Adds i s before after = after ≡ before ++ entries i 0 (stays_of (listed s.hyps)) (rules_of (listed s.hyps) s.concl)
 
+-- the sequent is one of these
+abbrev pub IsStated : List Sequent → Sequent → Type 0
+IsStated sequents s = (i : ℕ) × (slice_get sequents i ≡ Some s)
+
 -- ---- what the rules were made of
 
 abbrev pub set_given : SetRule → Given

@@ -1,5 +1,5 @@
 //! Sets of rules, and the first one that fits a term.
-ghost use Rattle.std.specs.Prelude.{◌≡◌, ◌<◌, ◌++◌, [], map, length, not, ◌||◌, IfOk, IfSome, IsFalse, OnOk, MatchOption, is_none, slice_get, Some, None};
+ghost use Rattle.std.specs.Prelude.{◌≡◌, ◌<◌, ◌++◌, [], map, length, not, ◌||◌, IfOk, IfSome, IsFalse, IsTrue, OnOk, MatchOption, is_none, slice_get, Some, None};
 ghost use Rattle.std.specs.List.{AllByRecursion};
 ghost use Rattle.std.specs.List.Sorted.{IsStrictlySortedBy};
 ghost use Rattle.std.specs.Option.{option_map};
@@ -11,9 +11,9 @@ ghost use Rattle.hol_subst.specs.AlphaOrder.{nameless_cmp};
 ghost use Rattle.hol_subst.specs.Hypotheses.{hyp_of, hyps_of};
 ghost use Rattle.hol_kernel.specs.Given.{given_sequent};
 ghost use Rattle.hol_match.specs.RuleSets.{rule_entries, IsTypedRule, IsFit, entries, fit, first_fit};
-ghost use Rattle.hol_match.specs.Contracta.{contracted, contractum, HasNoRedex};
+ghost use Rattle.hol_match.specs.Contracta.{contracta, contracted, contractum, HasNoRedex};
 ghost use Rattle.hol_match.specs.Apart.{IsApart, AddsVariables, rule_variables};
-ghost use Rattle.hol_match.specs.SetView.{set_rule, set_rules, set_given, set_givens, IsGivenIn, AreOf, Adds, AddsFrom};
+ghost use Rattle.hol_match.specs.SetView.{set_rule, set_rules, set_given, set_givens, IsGivenIn, IsStated, AreOf, Adds, AddsFrom};
 ghost use Rattle.hol_match.specs.RuleView.{rule_values};
 ghost use Rattle.hol_match.specs.Ways.{rule_ways};
 ghost use Rattle.hol_match.specs.Sources.{IsFrom};
@@ -60,9 +60,10 @@ pub struct RuleSet {
 }
 
 impl RuleSet {
-    /// The rules of the theorems, and of assumed terms `p`, which are read as `{p} |- p`.
+    /// The rules of the theorems, and of assumed terms `p`, which are read as `{p} |- p`. What they make of a term is what the first of
+    /// these rules that matches makes of it, so that a theorem that comes again adds none.
     pub fn new(alloc: Global, thms: &[Given]) -> Result<RuleSet, AllocError>
-        ensures rules { IfOk result (λ set. set_rules set.rules.items ≡ rule_entries 0 (map given_sequent thms.now)) }
+        ensures rules { IfOk result (λ set. contracta (set_rules set.rules.items) ≡ contracta (rule_entries 0 (map given_sequent thms.now))) }
         ensures given { IfOk result (λ set. AreOf thms.now set.rules.items) }
     {
         let (rules, variables) = all_rules(alloc, thms)?;
@@ -260,19 +261,58 @@ fn rules_depth(rules: &[SetRule]) -> Option<usize>
     Some(most)
 }
 
-// The rules of the theorems, and the variables that stay in some rule or stand in a right side, each once.
-#[tactic(auto, using(crate::proofs::RuleSets::going, crate::proofs::RuleSets::given_more))]
+// The rules of the theorems, each theorem's once, and the variables that stay in some rule or stand in a right side, each once.
+#[tactic(auto, using(crate::proofs::Repeated::making, crate::proofs::RuleSets::given_more))]
 fn all_rules(alloc: Global, thms: &[Given]) -> Result<(Vec<SetRule>, Vec<Variable>), AllocError>
-    ensures rules { IfOk result (λ all. set_rules all.0.items ≡ rule_entries 0 (map given_sequent thms.now)) }
+    ensures rules { IfOk result (λ all. contracta (set_rules all.0.items) ≡ contracta (rule_entries 0 (map given_sequent thms.now))) }
     ensures given { IfOk result (λ all. AreOf thms.now all.0.items) }
     ensures variables { IfOk result (λ all. all.1.items ≡ rule_variables [] (set_rules all.0.items)) }
 {
     let mut all = Vec::new(alloc);
     let mut variables = Vec::new(alloc);
     for (i, given) in thms.iter().enumerate() {
+        if is_repeated(&thms[..i], given) {
+            continue;
+        }
         add_theorem(alloc, &mut all, &mut variables, i, given)?;
     }
     Ok((all, variables))
+}
+
+// Whether one of the theorems has the nodes of this one. Where none has, this one may still be equal to one of them.
+#[tactic(auto, using(crate::proofs::Repeated::stated))]
+fn is_repeated(earlier: &[Given], given: &Given) -> bool
+    ensures { IsTrue result → IsStated (map given_sequent earlier.now) (given_sequent given.now) }
+{
+    for one in earlier {
+        if is_same(one, given) {
+            return true;
+        }
+    }
+    false
+}
+
+// Whether the two have the same nodes.
+#[tactic(auto, using(crate::proofs::Repeated::same_sequent))]
+fn is_same(one: &Given, other: &Given) -> bool
+    ensures { IsTrue result → given_sequent one.now ≡ given_sequent other.now }
+{
+    one.concl().same_node(other.concl()) && are_same(one.hyps(), other.hyps())
+}
+
+// Whether each term has the node of the other's at its place.
+fn are_same(terms: &[Term], others: &[Term]) -> bool
+    ensures { IsTrue result → terms.now ≡ others.now }
+{
+    if terms.len() != others.len() {
+        return false;
+    }
+    for (i, t) in terms.iter().enumerate() {
+        if !t.same_node(&others[i]) {
+            return false;
+        }
+    }
+    true
 }
 
 // Puts the rules of the theorem of number `i` at the end, and their variables that are not there.

@@ -4,6 +4,7 @@ pub mod Instances
 pub mod AssumptionLaws
 pub mod FreshNames
 pub mod FreshSearch
+pub mod NextNames
 pub mod FreshSteps
 pub mod TermsBy
 pub mod Templates

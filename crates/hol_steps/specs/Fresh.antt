@@ -4,6 +4,7 @@ use Rattle.std.specs.FinSet as set
 use Rattle.hol_types.specs.Tree.{TypeTree}
 use Rattle.hol_terms.specs.Named.{Named}
 use Rattle.hol_terms.specs.Nameless.{Nameless, nameless, base_of}
+use Rattle.hol_terms.specs.Primes.{with_primes}
 use Rattle.hol_terms.specs.Scoped.{binds}
 use Rattle.hol_subst.specs.FreeName.{is_taken}
 use Rattle.hol_subst.specs.Variant.{is_free_in}
@@ -20,6 +21,10 @@ AreAlike ns ms = (a : List ℕ) → is_taken ns a ≡ is_taken ms a
 -- the same of what new names avoid
 abbrev pub AvoidAlike : AvoidedValue → AvoidedValue → Type 0
 AvoidAlike a b = AreAlike a.terms b.terms × (a.names ≡ b.names)
+
+-- the name is the base with some primes
+abbrev pub HasPrimes : List ℕ → List ℕ → Type 0
+HasPrimes base name = (k : ℕ) × (name ≡ with_primes k base)
 
 -- they have the same names and free variables
 abbrev pub HaveSame : List Nameless → List Nameless → Type 0

@@ -1,13 +1,15 @@
 //! Variables of new names.
-ghost use Rattle.std.specs.Prelude.{◌≡◌, ◌∷◌, ◌++◌, List, map, IfOk, OnOk, codes, false, []};
+ghost use Rattle.std.specs.Prelude.{◌≡◌, ◌≤◌, ◌<◌, ◌∷◌, ◌++◌, ℕ, List, map, IfOk, OnOk, codes, get_or, true, false, []};
 ghost use Rattle.hol_terms.specs.Nameless.{Nameless, nameless};
+ghost use Rattle.hol_terms.specs.Primes.{with_primes};
 ghost use Rattle.hol_subst.specs.FreeName.{is_taken, IsFreeName};
+ghost use Rattle.hol_subst.specs.Marks.{Marks};
 ghost use Rattle.hol_just.specs.Fresh.{fresh};
-ghost use Rattle.hol_steps.specs.Fresh.{AreAlike, IsFresh};
+ghost use Rattle.hol_steps.specs.Fresh.{AreAlike, HasPrimes, IsFresh};
 
 use hol_goal::Names;
 use hol_just::Step;
-use hol_subst::free_name;
+use hol_subst::{free_name, taken_primes, with_primes};
 use hol_terms::{Term, Variable, base_name};
 use hol_types::Name;
 use std::alloc::{AllocError, Global};
@@ -66,19 +68,39 @@ fn fresh_name(
     let mut name = free_name(alloc, avoid, base)?;
     let mut tested = Vec::new(alloc);
     add_copy(&mut tested, &name)?;
+    if !names.has(name.as_str()) {
+        return Ok(FreshName { name, tested });
+    }
+    let taken = taken_primes(alloc, avoid, base)?;
     'primes: while names.has(name.as_str()) {
-        name = next_name(alloc, avoid, &name)?;
+        name = next_name(alloc, &taken, base, &name)?;
         add_copy(&mut tested, &name)?;
     }
     Ok(FreshName { name, tested })
 }
 
-// The first name with more primes than this that is that of nothing in the terms.
-fn next_name(alloc: Global, avoid: &[Term], name: &Name) -> Result<Name, AllocError>
-    ensures { IfOk result (λ next. IsFreeName (map (nameless []) avoid.now) (name.now ++ codes "'") next) }
+// The first name with more primes than this that isn't taken, by the numbers of primes after the base that are: so no term is gone through for it.
+fn next_name(alloc: Global, taken: &[bool], base: &Name, name: &Name) -> Result<Name, AllocError>
+    requires { HasPrimes base.now name.now }
+    ensures primed { IfOk result (λ next. HasPrimes base.now next) }
+    ensures first { IfOk result (λ next. (avoid : List Nameless) → Marks [] taken.now (λ k. is_taken avoid (with_primes k base.now)) → IsFreeName avoid (name.now ++ codes "'") next) }
 {
-    let primed = name.primed(alloc)?;
-    free_name(alloc, avoid, &primed)
+    let primes = name.as_str().len() - base.as_str().len();
+    let next = first_from(taken, primes + 1);
+    with_primes(alloc, name, next - primes)
+}
+
+// The first place from this one on that isn't marked.
+fn first_from(taken: &[bool], place: usize) -> usize
+    ensures later { place ≤ result }
+    ensures marked { (j : ℕ) → place ≤ j → j < result → get_or taken.now j false ≡ true }
+    ensures first { get_or taken.now result false ≡ false }
+{
+    let mut first = place;
+    'marked: while first < taken.len() && taken[first] {
+        first += 1;
+    }
+    first
 }
 
 // Puts the name at the end.

@@ -5,6 +5,6 @@ use Rattle.hol_goal.proofs.names.Names.copy.Goals as goal
 
 pub loop-part-preserved : goal.loop-part-preserved
 loop-part-preserved c =
-    ap (map (λ part. part.value.items)) c.in_ok-push.ensures.items
-    ∙ copied_more (λ part. part.value.items) c.loop-part.parts.items c.deref-part-items.result.now c.loop-part.part-index c.part-item.result c.in_ok-clone.field-0 c.loop-part-test.true c.part-item.is
-    (ap (λ v. v.items) c.in_ok-clone.ensures.cases) c.loop-part.invariant
+    ap (map (λ part. part.value)) c.in_ok-push.ensures.items
+    ∙ copied_more (λ part. part.value) c.loop-part.parts.items c.deref-part-items.result.now c.loop-part.part-index c.part-item.result c.in_ok-clone.field-0 c.loop-part-test.true c.part-item.is
+    c.in_ok-clone.ensures.cases c.loop-part.invariant
