@@ -188,7 +188,7 @@ def main():
     if words.depth:
         return depths(words.program)
     lists = [] if words.only else [of_texts(words.program, words.texts), of_lines(words.program)]
-    wide = [*large_terms.shared(), *large_terms.at_limits(), *large_terms.steps_on_large_goals(), *large_terms.many_citations()]
+    wide = [*large_terms.shared(), *large_terms.at_limits(), *large_terms.many_goals(), *large_terms.steps_on_large_goals(), *large_terms.many_citations()]
     lists += [of_case(words.program, case) for case in wide if words.only in case.name]
     lists += [it for case in deep_cases() if words.only in case.name for it in of_deep(words.program, case)]
     passed, failed = sum(it.passed for it in lists), sum(len(it.faults) for it in lists)

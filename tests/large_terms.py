@@ -81,6 +81,26 @@ def at_limits():
     yield Case("998 steps, and an end", ["g N `T`", *["e ALL_TAC"] * 997, "e ACCEPT_TAC TRUTH", "qed"], "made")
 
 
+def many_goals():
+    """As many goals as a text leaves, each of which has one of few large assumptions: what is shown of these is made once."""
+
+    def binders(count, sign="!", body="T"):
+        return f"({sign}" + joined(" ", (f"x{k}" for k in range(count))) + f". {body})"
+
+    def left(assumption, count):
+        return [f"g N `{assumption} ==> " + joined(r" /\ ", ["q"] * count) + "`", "e DISCH_TAC", "e REPEAT CONJ_TAC"]
+
+    yield Case("900 goals that assume 1,100 binders, told", left(binders(1_100), 900), "goals")
+    used = binders(700, body="P " + joined(" ", (f"x{k}" for k in range(700))))
+    yield Case("600 goals that assume 700 binders, all of which are used, told", left(used, 600), "goals")
+    either = f"new_axiom D `{binders(500)} \\/ {binders(500, '?')}`"
+    cases = [either, "g N `" + joined(r" /\ ", ["q"] * 450) + "`", "e REPEAT CONJ_TAC THEN DISJ_CASES_TAC D"]
+    yield Case("900 goals that assume one of two terms of 500 binders, told", cases, "goals")
+    long = "L" * 20_000
+    named = r"(p (x:" + long + ")" + r" /\ p x" * 599 + ")"
+    yield Case("600 goals that assume 600 times a variable whose type's name is long, told", [f"new_type {long} 0", *left(named, 600)], "goals")
+
+
 def steps_on_large_goals():
     """As many steps as a theory has on a goal as large as a text has: each step keeps what it changes of the goal, and no more."""
     parts = r" /\ " + joined(r" /\ ", [r"(p \/ ~q)"] * 570)
