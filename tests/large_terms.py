@@ -130,6 +130,25 @@ def many_citations():
     earlier, own = ([f"new_axiom {name}{k} `T`" for k in range(count)] for name, count in (("B", 1_000), ("C", 998)))
     names = [it.split()[1] for it in [*earlier, *own]]
     yield Case("1,998 theorems cited, named", ["import B", *own, named(names)], "made", earlier=earlier)
+    yield from many_rules()
+
+
+def many_rules():
+    """As many rules as a theorem or an assumption can have, and as many theorems as can be cited, beside a goal with as many parts."""
+    def conjoined(one, count):
+        return joined(r" /\ ", (one.format(k) for k in range(count)))
+
+    def assumed(rules, parts):
+        return [f"g N `{rules} ==> {parts}`", "e DISCH_TAC", "e ASM_REWRITE_TAC []"]
+
+    yield Case("1,981 variables assumed, rewritten by", assumed(conjoined("p{}", 1_981), "q"), "goals")
+    yield Case("990 variables assumed, beside 990 others", assumed(conjoined("p{}", 990), conjoined("q{}", 990)), "goals")
+    yield Case("640 applications assumed, beside 640 others", assumed(conjoined("f x{}", 640), conjoined("f z{}", 640)), "goals")
+    yield Case("580 equations at open types assumed, beside one", assumed(conjoined("(x{0} = y{0})", 580), "(q:bool)"), "goals")
+    applied = ["new_constant f `:A->bool`", f"new_axiom C `{conjoined('f x', 1_000)}`", f"g N `{conjoined('f z{}', 1_000)}`"]
+    cited = "e PURE_REWRITE_TAC [" + joined("; ", ["C"] * 2_040) + "]"
+    yield Case("a theorem of 1,000 conjuncts cited 2,040 times", [*applied, cited], "goals")
+    yield Case("a theorem of 1,980 free variables cited 2,040 times", [f"new_axiom C `{conjoined('p{}', 1_980)}`", "g N `q:bool`", cited], 18)
 
 
 def deep_terms():
