@@ -21,7 +21,7 @@ import threading
 import changed_rules
 import watched
 from edits import Command, request
-from model import alike, random_documents
+from model import alike, random_documents, random_matches
 from model.documents import Observed, basis, theorems, told
 from model.expressions import forget
 from model.grammar import COMMANDS
@@ -34,7 +34,7 @@ FORMS = {
     "general": random_documents.general, "edits": random_documents.general, "scopes": random_documents.scopes, "edits of scopes": random_documents.scopes,
     "declarations": random_documents.declarations, "functions": random_documents.functions, "faults": random_documents.faults, "syntax": random_documents.syntax, "turns": random_documents.turns_filled,
     "equal": alike.equal, "shapes": alike.shapes, "bound names": random_documents.bound_names, "sizes": random_documents.sizes, "tokens": random_documents.tokens,
-    "large goals": random_documents.large_goals, "chains": random_documents.chains, "nested": random_documents.nested,
+    "matching": random_matches.matching, "large goals": random_documents.large_goals, "chains": random_documents.chains, "nested": random_documents.nested,
 }  # fmt: skip
 # Documents of these forms take long.
 LARGE = ["sizes", "tokens", "large goals", "chains", "nested"]

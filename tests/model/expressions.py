@@ -38,11 +38,11 @@ def is_unchanged(goals, goal):
 
 
 class Run:
-    """One run of an expression: the turns that are left, the constants that stand, the names that were tested for one, and the functions that fitted. An expression is
-    run by the method of its word, on its parts and a goal."""
+    """One run of an expression: the turns that are left, the constants that stand, the names that were tested for one, the functions that fitted, and cases for the counts
+    alone. An expression is run by the method of its word, on its parts and a goal."""
 
     def __init__(self, turns, standing):
-        self.left, self.standing, self.tested, self.fitted = turns, standing, [], set()
+        self.left, self.standing, self.tested, self.fitted, self.cases = turns, standing, [], set(), set()
 
     def pay(self):
         if self.left == 0:

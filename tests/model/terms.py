@@ -73,12 +73,21 @@ def base(name):
     return name.rstrip("'")
 
 
+def lifted(term, more, depth=0):
+    """A term under so many lambdas more than it stood under."""
+    if term[0] == "bound":
+        return ("bound", term[1] + more, term[2]) if term[1] >= depth else term
+    if term[0] == "comb":
+        return ("comb", lifted(term[1], more, depth), lifted(term[2], more, depth))
+    return ("lambda", term[1], term[2], lifted(term[3], more, depth + 1)) if term[0] == "lambda" else term
+
+
 def body_at(function, argument):
     """The body of a lambda with a term for its variable."""
 
     def put(term, depth):
         if term[0] == "bound":
-            return argument if term[1] == depth else ("bound", term[1] - 1, term[2]) if term[1] > depth else term
+            return lifted(argument, depth) if term[1] == depth else ("bound", term[1] - 1, term[2]) if term[1] > depth else term
         if term[0] == "comb":
             return ("comb", put(term[1], depth), put(term[2], depth))
         return ("lambda", term[1], term[2], put(term[3], depth + 1)) if term[0] == "lambda" else term
@@ -93,6 +102,15 @@ def with_put(term, part, put, depth=0):
     if term[0] == "comb":
         return ("comb", with_put(term[1], part, put, depth), with_put(term[2], part, put, depth))
     return ("lambda", term[1], term[2], with_put(term[3], part, put, depth + 1)) if term[0] == "lambda" else term
+
+
+def indices(term, depth=0):
+    """The indices of a term that are bound outside of it."""
+    if term[0] == "bound":
+        return {term[1] - depth} if term[1] >= depth else set()
+    if term[0] == "comb":
+        return indices(term[1], depth) | indices(term[2], depth)
+    return indices(term[3], depth + 1) if term[0] == "lambda" else set()
 
 
 def free_variables(*terms):
@@ -138,8 +156,8 @@ def equation(left, right):
     return ("comb", ("comb", ("constant", "=", fun(ty, fun(ty, BOOL))), left), right)
 
 
-def quantified(name, ty, body):
-    return ("comb", ("constant", "!", fun(fun(ty, BOOL), BOOL)), ("lambda", name, ty, body))
+def quantified(name, ty, body, sign="!"):
+    return ("comb", ("constant", sign, fun(fun(ty, BOOL), BOOL)), ("lambda", name, ty, body))
 
 
 def sides(sign, term):
