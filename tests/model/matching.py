@@ -54,33 +54,30 @@ class Match:
 
 
 def called_apart(variables, types, taken):
-    """What the variables are called where these types are put: by their names, with primes where a variable is taken."""
+    """What the variables become where these types are put: one that would become one that is taken, or one before it, gets primes until its name is new to these."""
     found, taken = {}, set(taken)
     for variable in variables:
         name, ty = variable[1], type_put(types, variable[2])
-        while ("free", name, ty) in taken:
-            name += "'"
+        if ("free", name, ty) in taken:
+            while any(name == other[1] for other in taken):
+                name += "'"
         found[variable] = ("free", name, ty)
         taken.add(found[variable])
     return found
 
 
 def match_mp_tac(run, goal, theorem):
-    bound, body = [], theorem.conclusion
+    bound, body, hypotheses = [], theorem.conclusion, theorem.hypotheses.values()
     while under("!", body):
         bound.append(under("!", body)[1:3])
         body = under("!", body)[3]
-    found = sides("==>", body)
-    if not found:
-        run.cases.add("MATCH_MP_TAC: no implication")
-        return None
-    match, hypotheses = Match(theorem.hypotheses.values()), theorem.hypotheses.values()
-    why = match.why_not(found[1], goal[1])
+    found, match = sides("==>", body), Match(hypotheses)
+    why = match.why_not(found[1], goal[1]) if found else "no implication"
     if why:
-        run.cases.add(f"MATCH_MP_TAC: {why}")
+        run.cases.add(f"17: MATCH_MP_TAC, {why}")
         return None
-    index = lambda at: len(bound) - 1 - at
-    left_over = [at for at in range(len(bound)) if index(at) in indices(found[0]) and index(at) not in indices(found[1])]
+    used, matched = (indices(side) for side in found)
+    left_over = [at for at in range(len(bound)) if len(bound) - 1 - at in used - matched]
     staying = [variable for variable in in_preorder(found[0]) if match.variable(variable, 0) and variable not in match.terms]
     called = called_apart(staying, match.types, match.fixed)
 
@@ -92,7 +89,19 @@ def match_mp_tac(run, goal, theorem):
     left = match.put(found[0], others)
     for at in reversed(left_over):
         left = quantified(bound[at][0], type_put(match.types, bound[at][1]), left, "?")
+    run.cases.update(f"fits: MATCH_MP_TAC, {case}" for case, stands in cases(match, found, left_over, called).items() if stands)
     return [(goal[0], left)]
+
+
+def cases(match, found, left_over, called):
+    """What is special where a theorem matches, for the counts alone."""
+    right, right_types = free_variables(found[1]), type_variables_in(found[1])
+    return {
+        "a variable is quantified": left_over, "two variables are quantified": left_over[1:], "a variable stays": called,
+        "a variable gets a prime": any(old[1] != new[1] for old, new in called.items()), "a free variable takes a term": right.intersection(match.terms),
+        "a free variable is fixed": right & match.fixed, "a type variable takes a type": match.types, "a type variable is fixed": right_types & match.fixed_types,
+        "a type variable stays": type_variables_in(found[0]) - match.fixed_types.union(match.types),
+    }  # fmt: skip
 
 
 def in_preorder(term):

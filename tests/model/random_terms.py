@@ -1,11 +1,15 @@
 """Terms of given types by chance, and their texts with all types."""
 
+import functools
+
 from model.showing import INFIXES, binding, sign_of, type_text
-from model.terms import BINARY, BOOL, A, B, equation, fun, indices, joined, names_in, quantified, type_put, with_put
+from model.terms import BINARY, BOOL, A, B, fun, indices, joined, names_in, quantified, type_put, with_put
 
 IND = ("type", "ind", ())
 # Constants of these generic types are declared where such terms are written.
 DECLARED = {"R": fun(A, fun(A, BOOL)), "K": fun(A, fun(B, BOOL)), "S": fun(A, BOOL), "q": fun(BOOL, BOOL), "n": fun(A, A), "k": A, "o": BOOL}
+# Of what types the arguments of a constant are, and of "=".
+KINDS = {"=": "AA", "R": "AA", "K": "AB", "S": "A", "q": "b"}
 NAMES = ["x", "y", "z", "a", "x'"]
 FUNCTION_NAMES = ["f", "g", "P", "Q", "x"]
 
@@ -95,26 +99,24 @@ class Terms:
         return ("comb", function, self.of(domain, depth, scope))
 
     def formula(self, depth, scope):
-        kind = self.rng.choices(["sign", "not", "equation", "binder", "R", "K", "S", "q", "variable"], [22, 4, 8, 14, 20, 6, 8, 5, 14])[0]
+        kind = self.rng.choices(["sign", "not", "binder", "variable", *KINDS], [18, 4, 24, 14, 8, 20, 6, 8, 5])[0]
         if kind == "sign":
             return joined(self.one(["/\\", "\\/", "==>"]), self.of(BOOL, depth, scope), self.of(BOOL, depth, scope))
         if kind == "not":
             return ("comb", ("constant", "~", fun(BOOL, BOOL)), self.of(BOOL, depth, scope))
-        ty, other = self.type(), self.type()
-        if kind == "equation":
-            return equation(self.of(ty, depth, scope), self.of(ty, depth, scope))
         if kind == "binder":
+            ty = self.type()
             return ("comb", ("constant", self.one(["!", "!", "?", "?!"]), fun(fun(ty, BOOL), BOOL)), self.abstraction(ty, BOOL, depth, scope))
         if kind == "variable":
             return self.applied(BOOL, depth, scope)
-        types = {"R": [ty, ty], "K": [ty, other], "S": [ty], "q": [BOOL]}[kind]
-        whole = BOOL
-        for part in reversed(types):
-            whole = fun(part, whole)
-        term = ("constant", kind, whole)
-        for part in types:
-            term = ("comb", term, self.of(part, depth, scope))
-        return term
+        return self.atom(kind, depth, scope)
+
+    def atom(self, name, depth, scope):
+        """A constant of `KINDS` on terms of some types."""
+        types = dict(zip("AB", [self.type(), self.type()]))
+        domains = [BOOL if kind == "b" else types[kind] for kind in KINDS[name]]
+        whole = functools.reduce(lambda codomain, domain: fun(domain, codomain), reversed(domains), BOOL)
+        return functools.reduce(lambda term, domain: ("comb", term, self.of(domain, depth, scope)), domains, ("constant", name, whole))
 
 
 def put(term, types, terms):
