@@ -58,7 +58,8 @@ class Terms:
     def variable(self, ty):
         """A free variable of the type, or None where the names are used up."""
         names = FUNCTION_NAMES if ty[:2] == ("type", "fun") else NAMES
-        name = self.one([name for name in names if self.variables.get(name, ty) == ty] or [None])
+        known = [name for name in names if self.variables.get(name) == ty]
+        name = self.one(known if known and self.chance(0.5) else [name for name in names if self.variables.get(name, ty) == ty] or [None])
         if name:
             self.variables[name] = ty
         return name and ("free", name, ty)

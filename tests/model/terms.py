@@ -4,6 +4,8 @@ A type is ("variable", name) or ("type", constructor, arguments). A term is ("fr
 ("comb", function, argument) or ("lambda", name, type, body): an index counts the lambdas inward of the one that binds it (N. G. de Bruijn, 1972), and the name of a
 lambda is that which is written, without its primes."""
 
+import functools
+
 BOOL = ("type", "bool", ())
 
 
@@ -20,6 +22,7 @@ PRELUDE_CONSTANTS.update({"!": QUANTIFIER, "?": QUANTIFIER, "?!": QUANTIFIER, "O
 TRUE, FALSE = ("constant", "T", BOOL), ("constant", "F", BOOL)
 
 
+@functools.lru_cache(maxsize=None)
 def type_size(ty):
     return 1 if ty[0] == "variable" else 1 + sum(map(type_size, ty[2]))
 
