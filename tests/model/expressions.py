@@ -174,11 +174,10 @@ class Run:
         return goals
 
     def test_hypotheses(self, name, arguments, goal):
-        assumed = {nameless(assumption) for assumption in goal[0]}
-        for argument in arguments:
-            for theorem in argument if isinstance(argument, list) else [argument]:
-                if isinstance(theorem, Theorem) and any(hypothesis not in assumed for hypothesis in theorem.hypotheses):
-                    raise Unfit(15, name)
+        theorems = [theorem for argument in arguments for theorem in (argument if isinstance(argument, list) else [argument]) if isinstance(theorem, Theorem)]
+        wanted = {hypothesis for theorem in theorems for hypothesis in theorem.hypotheses}
+        if wanted and not wanted <= {nameless(assumption) for assumption in goal[0]}:
+            raise Unfit(15, name)
 
 
 setattr(Run, "try", Run.tried)  # Python has a word `try` of its own

@@ -187,7 +187,7 @@ def redexes(rng):
 
 def reducing(rng, turns):
     """Goals with redexes, which are reduced with as many turns as that takes, and with one less."""
-    texts, theory, goals = list(CONSTANTS), Theory(), [redexes(rng) for _ in range(8)] + [large_redex(*rng.choice(LARGE))] * (rng.random() < 0.4)
+    texts, theory, goals = list(CONSTANTS), Theory(), [redexes(rng) for _ in range(6)] + [large_redex(*rng.choice(LARGE))] * (rng.random() < 0.25)
     for text in texts:
         run_command(theory, text, {}, turns)
     for at, goal in enumerate(goals):
@@ -197,7 +197,7 @@ def reducing(rng, turns):
         observed = Observed()
         run_command(copied(theory), "e BETA_TAC", {}, turns, observed)
         texts += opened
-        for beyond in (0, 1) if observed.turns else ():
+        for beyond in (0, 1) if observed.turns and at < 6 else ():
             texts += with_turns(turns - observed.turns[0] + beyond, "BETA_TAC")
         texts += [f"e {rng.choice(REDUCTIONS)}", "qed", "oops"]
         run_command(theory, "oops", {}, turns)

@@ -40,6 +40,7 @@ def leaves(term):
                 todo.append(term[3])
 
 
+@functools.lru_cache(maxsize=10_000)
 def size(term):
     """The nodes of a term and of the types in it."""
     found, todo = 0, [term]
