@@ -6,7 +6,7 @@ from model.documents import Observed, copied, run_command
 from model.random_documents import with_turns
 from model.random_terms import DECLARED, IND, KINDS, Terms, bind, put, typed_text
 from model.showing import term_text, type_text
-from model.terms import BOOL, TRUE, A, B, free_variables, fun, indices, joined, leaves, type_of, type_put, type_variables_in, with_put
+from model.terms import BOOL, FALSE, TRUE, A, B, free_variables, fun, indices, joined, leaves, type_of, type_put, type_variables_in, with_put
 from model.theories import Theory
 
 CONSTANTS = [f"new_constant {name} `:{type_text(ty)}`" for name, ty in DECLARED.items()]
@@ -98,9 +98,10 @@ class Lemma:
         else:
             self.right, left = terms.of(BOOL, rng.choice([0, 3, 3, 3])), terms.of(BOOL, rng.choice([1, 2, 2]))
             self.hypothesis = terms.of(BOOL, rng.choice([0, 1, 2])) if rng.random() < 0.4 else None
-        left = rng.choice([left] * 12 + [("comb", ("constant", "~", fun(BOOL, BOOL)), left)])
         outer = [variable for variable in sorted(free_variables(left, self.right)) if rng.random() < (0.15 if called else 0.5)]
-        self.statement = rng.choice([joined("==>", left, self.right)] * 40 + [left, self.right])
+        self.statement = joined("==>", left, self.right)
+        if rng.random() < 0.08:
+            self.statement, self.right = rng.choice([left, ("comb", ("constant", "~", fun(BOOL, BOOL)), left)]), FALSE
         for variable in rng.sample(outer, len(outer)) + [("free", "y", rng.choice([BOOL, A]))] * (rng.random() < 0.1):
             self.statement = bind("!", variable, self.statement)
         self.axiom, self.text, self.called = joined("==>", self.hypothesis, self.statement) if self.hypothesis else self.statement, name, dict(called)
