@@ -73,9 +73,16 @@ def nearly_put(rng, terms, term, types, taken, scope=()):
     return ("lambda", term[1], ty, nearly_put(rng, terms, term[3], types, taken, (ty, *scope))) if term[0] == "lambda" else (*term[:2], ty)
 
 
-def one_name_at_two_types(rng):
+def repeated(rng, term):
+    """The term with a free variable that it has in the place of another part, too."""
+    found = [(at, part) for at, (part, _) in enumerate(parts(term)) if at > 0 and not indices(part)]
+    places = [(at, variable) for at, part in found for variable in sorted(free_variables(term)) if part != variable and type_of(part) == variable[2]]
+    return with_other(term, *rng.choice(places))[0] if places else term
+
+
+def one_name_at_two_types(rng, names):
     """The two sides of an implication and a hypothesis, of variables that are told apart by their types alone once they are called as the last part says."""
-    pairs = rng.sample([(name, ty) for name in ("x", "x'") for ty in (A, B, BOOL)], rng.choice([2, 3, 4, 5]))
+    pairs = rng.sample([(name, ty) for name in names for ty in (A, B, BOOL)], rng.choice([2, 3, 3, 4, 5]) if len(names) > 1 else 3)
     variables = [("free", f"v{at}", ty) for at, (_, ty) in enumerate(pairs)]
     atom = lambda variable: ("comb", ("constant", "S", fun(variable[2], BOOL)), variable)
     sides = [[], [], []]
@@ -84,6 +91,7 @@ def one_name_at_two_types(rng):
             if side < 2 or name not in [called for other, (called, _) in zip(variables, pairs) if atom(other) in sides[2]]:
                 sides[side].append(atom(variable))
     sides[1] += [atom(("free", name, ty)) for name, ty in (("y", A), ("z", B)) if rng.random() < 0.8]
+    sides[2] += [("constant", "x'", BOOL)] * (len(names) == 1)
     left, right, hypothesis = (functools.reduce(lambda before, behind: joined("/\\", before, behind), reversed(side)) if side else ("constant", "o", BOOL) for side in sides)
     return left, right, hypothesis if sides[2] else None, [(old, ("free", *pair)) for old, pair in zip(variables, pairs)]
 
@@ -91,12 +99,13 @@ def one_name_at_two_types(rng):
 class Lemma:
     """A theorem by chance, `!xs. s ==> t`, maybe under a hypothesis: its axiom, and how it is written from that, where variables are called as others are."""
 
-    def __init__(self, rng, name):
+    def __init__(self, rng, name, names):
         terms, self.hypothesis, called = Terms(rng, rng.choice([[BOOL, A], [BOOL, A], [A, B], [BOOL, A, B, IND]])), None, []
         if rng.random() < 0.4:
-            left, self.right, self.hypothesis, called = one_name_at_two_types(rng)
+            left, self.right, self.hypothesis, called = one_name_at_two_types(rng, names)
         else:
             self.right, left = terms.of(BOOL, rng.choice([0, 3, 3, 3])), terms.of(BOOL, rng.choice([1, 2, 2]))
+            self.right = repeated(rng, self.right) if rng.random() < 0.7 else self.right
             self.hypothesis = terms.of(BOOL, rng.choice([0, 1, 2])) if rng.random() < 0.4 else None
         outer = [variable for variable in sorted(free_variables(left, self.right)) if rng.random() < (0.15 if called else 0.5)]
         self.statement = joined("==>", left, self.right)
@@ -123,7 +132,7 @@ def instance(rng, right, fixed):
     kept, kept_types = free_variables(*fixed), set().union(*map(type_variables_in, fixed))
     goals = Terms(rng, rng.choice([[BOOL], [A, BOOL], [BOOL, IND], [fun(A, BOOL), BOOL]]), sorted(kept))
     types = {name: goals.type() for name in "AB" if rng.random() < 0.8 and name not in kept_types}
-    terms = {variable: goals.of(type_put(types, variable[2]), rng.choice([0, 1, 2])) for variable in sorted(free_variables(right) - kept)}
+    terms = {variable: goals.of(type_put(types, variable[2]), rng.choice([0, 1, 2, 2])) for variable in sorted(free_variables(right) - kept)}
     has_lambda = any(leaf[0] == "lambda" for leaf in leaves(right))
     found = nearly_put(rng, goals, right, types, terms) if rng.random() < (0.5 if has_lambda else 0.25) else put(right, types, terms)
     found = renamed(rng, found) if rng.random() < 0.5 else found
@@ -135,9 +144,10 @@ HANDED = ["DISCH_THEN MATCH_MP_TAC", "DISCH_TAC THEN FIRST_ASSUM MATCH_MP_TAC", 
 
 def matching(rng, turns):
     """Theorems, each on some goals: written, also with other types, and handed over, where they are their own hypotheses; then maybe another one on what is left."""
-    texts = list(CONSTANTS)
+    names = rng.choice([["x", "x'"]] * 3 + [["x"]])
+    texts = CONSTANTS + ["new_constant x' `:bool`"] * ("x'" not in names)
     for at in range(6):
-        lemma = Lemma(rng, f"L{at}")
+        lemma = Lemma(rng, f"L{at}", names)
         as_text = term_text if lemma.text == f"L{at}" and rng.random() < 0.2 else typed_text
         texts += [f"new_axiom L{at} `{as_text(lemma.axiom)}`", f"g G{at} `{typed_text(lemma.hypothesis) if lemma.hypothesis else 'T'} ==> T`"]
         for _ in range(5):
@@ -182,7 +192,8 @@ def redexes(rng):
     terms = Terms(rng, rng.choice([[BOOL], [BOOL, A], [A, B]]), redexes=rng.choice([0.1, 0.3, 0.5]))
     term = TRUE if rng.random() < 0.3 else terms.of(BOOL, rng.choice([2, 3, 4]))
     for _ in range(rng.choice([0, 1, 2, 4])):
-        term = expanded(rng, terms, term)
+        at, (part, scope) = rng.choice([row for row in enumerate(parts(term)) if row[1][1]] or list(enumerate(parts(term))))
+        term = expanded(rng, terms, term) if rng.random() < 0.5 or term == TRUE else with_other(term, at, terms.redex(type_of(part), 2, scope))[0]
     return rng.choice([typed_text, typed_text, term_text])(term)
 
 

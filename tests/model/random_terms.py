@@ -78,8 +78,7 @@ class Terms:
     def of(self, ty, depth, scope=()):
         """A term of the type, where variables of these types are bound around it."""
         if depth > 0 and self.chance(self.redexes):
-            domain = self.type()
-            return ("comb", self.abstraction(domain, ty, depth - 1, scope), self.of(domain, depth - 1, scope))
+            return self.redex(ty, depth - 1, scope)
         if depth <= 0 or self.chance(0.15):
             return self.leaf(ty, scope)
         if ty == BOOL:
@@ -92,6 +91,17 @@ class Terms:
 
     def abstraction(self, domain, codomain, depth, scope):
         return ("lambda", self.one(["x", "y", "z", "a"]), domain, self.of(codomain, depth, (domain, *scope)))
+
+    def binder(self, depth, scope):
+        ty = self.type()
+        return ("comb", ("constant", self.one(["!", "!", "?", "?!"]), fun(fun(ty, BOOL), BOOL)), self.abstraction(ty, BOOL, depth, scope))
+
+    def redex(self, ty, depth, scope):
+        """A lambda, or what may become one, on a term; a variable that is bound around both, often."""
+        domain, is_formula = self.one(scope) if scope and self.chance(0.5) else self.type(), ty == BOOL and self.chance(0.5)
+        body = (self.binder if is_formula else lambda *where: self.of(ty, *where))(depth, (domain, *scope))
+        function = ("lambda", self.one(["x", "y", "z", "a"]), domain, body) if self.chance(0.7) else self.of(fun(domain, ty), depth, scope)
+        return ("comb", function, self.of(domain, self.one([0, depth]), scope))
 
     def applied(self, ty, depth, scope):
         """A variable on a term."""
@@ -106,8 +116,7 @@ class Terms:
         if kind == "not":
             return ("comb", ("constant", "~", fun(BOOL, BOOL)), self.of(BOOL, depth, scope))
         if kind == "binder":
-            ty = self.type()
-            return ("comb", ("constant", self.one(["!", "!", "?", "?!"]), fun(fun(ty, BOOL), BOOL)), self.abstraction(ty, BOOL, depth, scope))
+            return self.binder(depth, scope)
         if kind == "variable":
             return self.applied(BOOL, depth, scope)
         return self.atom(kind, depth, scope)
