@@ -265,6 +265,7 @@ def all_forms(given):
     for at, turns in enumerate(TURNS):
         plan = [(form, seed) for seed in range(given.rounds) for form in FORMS if form not in LARGE]
         plan += [(form, given.rounds + more) for form in ("declarations", "functions") for more in range(4)]
+        plan += [("matching", given.rounds)] * (turns > 4)
         large = [LARGE[(at + more) % len(LARGE)] for more in (0, 2, 3)]
         plan += [(form, at) for form in large if turns < 1_000 or form != "large goals"]
         tried(given.program, turns, plan, counts)

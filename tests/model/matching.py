@@ -57,7 +57,7 @@ class Match:
 
     def called_apart(self, variables):
         """What the variables become where types are put. One that would become a fixed one, or one before it, gets primes until its name is none of these and no
-        constant's in the fixed terms."""
+        constant's in the fixed terms. (The program keeps it from names that quantified variables have meanwhile, too; that shows where a name has two primes.)"""
         found, taken, names = {}, set(self.fixed), set(self.fixed_names)
         for variable in variables:
             kind, name, ty = variable[0], variable[1], type_put(self.types, variable[2])
