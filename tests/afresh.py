@@ -21,7 +21,7 @@ import threading
 import changed_rules
 import watched
 from edits import Command, request
-from model import alike, random_documents
+from model import alike, random_documents, random_matches
 from model.documents import Observed, basis, theorems, told
 from model.expressions import forget
 from model.grammar import COMMANDS
@@ -34,7 +34,7 @@ FORMS = {
     "general": random_documents.general, "edits": random_documents.general, "scopes": random_documents.scopes, "edits of scopes": random_documents.scopes,
     "declarations": random_documents.declarations, "functions": random_documents.functions, "faults": random_documents.faults, "syntax": random_documents.syntax, "turns": random_documents.turns_filled,
     "equal": alike.equal, "shapes": alike.shapes, "bound names": random_documents.bound_names, "sizes": random_documents.sizes, "tokens": random_documents.tokens,
-    "large goals": random_documents.large_goals, "chains": random_documents.chains, "nested": random_documents.nested,
+    "matching": random_matches.matching, "reducing": random_matches.reducing, "large goals": random_documents.large_goals, "chains": random_documents.chains, "nested": random_documents.nested,
 }  # fmt: skip
 # Documents of these forms take long.
 LARGE = ["sizes", "tokens", "large goals", "chains", "nested"]
@@ -47,8 +47,13 @@ WANTED = {
 }  # fmt: skip
 TACTICALS = ["THENL", "CHANGED_TAC", "FIRST", "DISCH_THEN", "POP_ASSUM", "FIRST_ASSUM"]
 MODELLED = [name for name, function in FUNCTIONS.items() if function is not unmodelled]
-ALWAYS_FIT = ["ALL_TAC", "MP_TAC", "ASSUME_TAC", "STRIP_ASSUME_TAC", "PURE_REWRITE_TAC"]
+ALWAYS_FIT = ["ALL_TAC", "BETA_TAC", "MP_TAC", "ASSUME_TAC", "STRIP_ASSUME_TAC", "PURE_REWRITE_TAC"]
 RESTING = [name for name in MODELLED if "t" in ARGUMENTS[name]]
+UNMATCHED = ["no implication", "another kind of term", "another name", "another type", "two terms for a variable", "a variable that is bound inside"]
+MATCHED = [
+    "a variable is quantified", "two variables are quantified", "a variable stays", "a variable gets a prime", "a free variable takes a term", "a free variable is fixed",
+    "a type variable takes a type", "a type variable is fixed", "a type variable stays",
+]  # fmt: skip
 CASES = [
     *("6: an unknown name", "6: a function without arguments", "6: a function with other arguments", "6: a function that gets a theorem"),
     *("6: a named expression with other arguments", "6: a named expression that gets a theorem"),
@@ -56,6 +61,7 @@ CASES = [
     *("13: a reading", "13: a theorem", "13: a named expression", "13: a run", "13: a run inside a named expression", "18: a run", "18: a run inside a named expression"),
     *(f"14: {rule}" for rule in ("ASSUME", "SPEC", "SYM", "CONJUNCT1", "CONJUNCT2", "MP", "INST_TYPE")),
     *(f"15: {name}" for name in RESTING), *(f"17: {name}" for name in (*MODELLED, *TACTICALS) if name not in ALWAYS_FIT), *(f"fits: {name}" for name in MODELLED if name != "NO_TAC"),
+    *(f"17: MATCH_MP_TAC, {why}" for why in UNMATCHED), *(f"fits: MATCH_MP_TAC, {case}" for case in MATCHED),
     *("15: inside a named expression", "17: inside a named expression", *(f"21: another {kind} stands" for kind in ("type", "const", "thm", "tac"))),
 ]
 
@@ -259,6 +265,7 @@ def all_forms(given):
     for at, turns in enumerate(TURNS):
         plan = [(form, seed) for seed in range(given.rounds) for form in FORMS if form not in LARGE]
         plan += [(form, given.rounds + more) for form in ("declarations", "functions") for more in range(4)]
+        plan += [("matching", given.rounds)] * (turns > 4)
         large = [LARGE[(at + more) % len(LARGE)] for more in (0, 2, 3)]
         plan += [(form, at) for form in large if turns < 1_000 or form != "large goals"]
         tried(given.program, turns, plan, counts)

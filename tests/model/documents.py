@@ -109,7 +109,7 @@ class Running:
             raise Refusal(it.number, "", f"a run{' inside a named expression' if it.is_inside else ''}")
         finally:
             self.reads[4] = {name: name in run.standing for name in run.tested}
-            self.observed.cases.update(f"fits: {name}" for name in run.fitted)
+            self.observed.cases.update([f"fits: {name}" for name in run.fitted] + list(run.cases))
         self.observed.turns.append(self.turns - run.left)
         history.append((left + goals[1:], basis | self.resolved.basis()))
         return self.goals()

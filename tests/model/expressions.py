@@ -38,11 +38,11 @@ def is_unchanged(goals, goal):
 
 
 class Run:
-    """One run of an expression: the turns that are left, the constants that stand, the names that were tested for one, and the functions that fitted. An expression is
-    run by the method of its word, on its parts and a goal."""
+    """One run of an expression: the turns that are left, the constants that stand, the names that were tested for one, the functions that fitted, and cases for the counts
+    alone. An expression is run by the method of its word, on its parts and a goal."""
 
     def __init__(self, turns, standing):
-        self.left, self.standing, self.tested, self.fitted = turns, standing, [], set()
+        self.left, self.standing, self.tested, self.fitted, self.cases = turns, standing, [], set(), set()
 
     def pay(self):
         if self.left == 0:
@@ -174,11 +174,10 @@ class Run:
         return goals
 
     def test_hypotheses(self, name, arguments, goal):
-        assumed = {nameless(assumption) for assumption in goal[0]}
-        for argument in arguments:
-            for theorem in argument if isinstance(argument, list) else [argument]:
-                if isinstance(theorem, Theorem) and any(hypothesis not in assumed for hypothesis in theorem.hypotheses):
-                    raise Unfit(15, name)
+        theorems = [theorem for argument in arguments for theorem in (argument if isinstance(argument, list) else [argument]) if isinstance(theorem, Theorem)]
+        wanted = {hypothesis for theorem in theorems for hypothesis in theorem.hypotheses}
+        if wanted and not wanted <= {nameless(assumption) for assumption in goal[0]}:
+            raise Unfit(15, name)
 
 
 setattr(Run, "try", Run.tried)  # Python has a word `try` of its own

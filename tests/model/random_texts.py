@@ -12,8 +12,8 @@ THEOREMS = ["AX", "AY", "L", "M", "D", "CL", "N1", "deftac"]
 CONSTANTS = ["c", "d", "x", "x'", "p", "D", "f", "y"]
 TYPES = ["t", "u", "t", "u", "A", "D"]
 BUILT_IN = "TRUTH TRUTH T_DEF F_DEF AND_CLAUSES REFL_CLAUSE NOT_CLAUSES_WEAK ETA_AX IMP_CLAUSES SELECT_AX INFINITY_AX".split()
-WITHOUT = [name for name, kinds in ARGUMENTS.items() if kinds == "" and name != "BETA_TAC"]
-WITH = [name for name, kinds in ARGUMENTS.items() if kinds not in ("", "l") and name != "MATCH_MP_TAC"]
+WITHOUT = [name for name, kinds in ARGUMENTS.items() if kinds == ""]
+WITH = [name for name, kinds in ARGUMENTS.items() if kinds not in ("", "l")]
 # What ends most goals that are no harder than they look.
 SEARCH = "REPEAT (FIRST [CONJ_TAC; DISCH_TAC; GEN_TAC; ACCEPT_TAC TRUTH; REFL_TAC; FIRST_ASSUM ACCEPT_TAC])"
 UNTYPABLE = ["x x", "(\\x. x x)", "T T", "(p:bool) = (p:A)", "!x. x /\\ x x", "(x:A) = T"]
@@ -23,10 +23,10 @@ VARIABLES = ["x:bool", "c:bool", "y:bool", "p", "a:A", "T", "F", "x':bool", "a:t
 AT_TYPES = ["a:%s = a", "(\\x:%s. x) = (\\x. x)", "(\\y:%s. T) = (\\z. T)", "(b:%s->bool) = b", "!x:%s. x = x", "?x:%s. x = x"]
 BROKEN = ["(", ")", "[", "]", ";", "`", " THEN ", " TRY ", " 01 ", " 10000", "%", "~", " D ", ".", " ORELSE", " THENL ", " MP ", " 7", "\t"]
 BEHIND = [" THEN", ")", " D", " TRY", " ORELSE ALL_TAC", ";", " []", " (", " `", " 3", "  "]
-CONTINUATIONS = "ACCEPT_TAC MP_TAC ASSUME_TAC STRIP_ASSUME_TAC CONTR_TAC CHOOSE_TAC DISJ_CASES_TAC SUBST1_TAC ACCEPT_TAC".split()
+CONTINUATIONS = "ACCEPT_TAC MP_TAC ASSUME_TAC STRIP_ASSUME_TAC CONTR_TAC CHOOSE_TAC DISJ_CASES_TAC SUBST1_TAC MATCH_MP_TAC ACCEPT_TAC".split()
 NO_CONTINUATIONS = ["FOO", "ALL_TAC", "CONJ_TAC", "(ACCEPT_TAC TRUTH)", "X_CHOOSE_TAC", "SPEC_TAC", "REWRITE_TAC", "(MP_TAC `T`)", "(X_CHOOSE_TAC `x:bool` TRUTH)"]
 UNKNOWN = ["FOO", "D", "CL", "E", "AX", "TRUTH", "THE_TAC", "D'", "x", "c", "deftac"]
-ON_ASSUMPTIONS = ["POP_ASSUM MP_TAC", "POP_ASSUM STRIP_ASSUME_TAC"] + [f"FIRST_ASSUM {name}_TAC" for name in "STRIP_ASSUME CONTR CHOOSE DISJ_CASES SUBST1".split()]
+ON_ASSUMPTIONS = ["POP_ASSUM MP_TAC", "POP_ASSUM STRIP_ASSUME_TAC"] + [f"FIRST_ASSUM {name}_TAC" for name in "STRIP_ASSUME CONTR CHOOSE DISJ_CASES SUBST1 MATCH_MP".split()]
 
 
 def in_parentheses(text):

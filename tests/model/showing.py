@@ -1,6 +1,6 @@
 """How types, terms and goals are shown (docs/PROTOCOL.md, 'How terms and types are shown')."""
 
-from model.terms import BINARY, free_variables, names_in
+from model.terms import BINARY, free_variables, indices, names_in
 
 # How tightly what is shown binds.
 INFIXES = {"<=>": 2, "==>": 4, "\\/": 6, "/\\": 8, "=": 12}
@@ -38,15 +38,6 @@ def binding(term):
     if term[0] == "comb" and sign_of(term[1]) in BINDERS and term[2][0] == "lambda":
         return sign_of(term[1]), term[2]
     return None, None
-
-
-def indices(term, depth=0):
-    """The indices of a term that are bound outside of it."""
-    if term[0] == "bound":
-        return {term[1] - depth} if term[1] >= depth else set()
-    if term[0] == "comb":
-        return indices(term[1], depth) | indices(term[2], depth)
-    return indices(term[3], depth + 1) if term[0] == "lambda" else set()
 
 
 def term_text(term, bound=(), least=WHOLE):

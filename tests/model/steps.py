@@ -1,6 +1,7 @@
 """The functions on goals that don't rewrite (docs/TACTICS.md). A goal is its assumptions, the newest first, and its conclusion. Each function takes the run, the goal and
 its arguments, and gives the goals that are left, or None where it doesn't fit."""
 
+from model.matching import beta_tac, match_mp_tac
 from model.refusals import Unmodelled
 from model.terms import BOOL, FALSE, TRUE, aconv, base, body_at, combs, equation, free_variables, implication, joined, quantified, sides, type_of, under, with_put
 

@@ -4,6 +4,8 @@ A type is ("variable", name) or ("type", constructor, arguments). A term is ("fr
 ("comb", function, argument) or ("lambda", name, type, body): an index counts the lambdas inward of the one that binds it (N. G. de Bruijn, 1972), and the name of a
 lambda is that which is written, without its primes."""
 
+import functools
+
 BOOL = ("type", "bool", ())
 
 
@@ -20,6 +22,7 @@ PRELUDE_CONSTANTS.update({"!": QUANTIFIER, "?": QUANTIFIER, "?!": QUANTIFIER, "O
 TRUE, FALSE = ("constant", "T", BOOL), ("constant", "F", BOOL)
 
 
+@functools.lru_cache(maxsize=None)
 def type_size(ty):
     return 1 if ty[0] == "variable" else 1 + sum(map(type_size, ty[2]))
 
@@ -37,6 +40,7 @@ def leaves(term):
                 todo.append(term[3])
 
 
+@functools.lru_cache(maxsize=10_000)
 def size(term):
     """The nodes of a term and of the types in it."""
     found, todo = 0, [term]
@@ -73,12 +77,21 @@ def base(name):
     return name.rstrip("'")
 
 
+def lifted(term, more, depth=0):
+    """A term under so many lambdas more than it stood under."""
+    if term[0] == "bound":
+        return ("bound", term[1] + more, term[2]) if term[1] >= depth else term
+    if term[0] == "comb":
+        return ("comb", lifted(term[1], more, depth), lifted(term[2], more, depth))
+    return ("lambda", term[1], term[2], lifted(term[3], more, depth + 1)) if term[0] == "lambda" else term
+
+
 def body_at(function, argument):
     """The body of a lambda with a term for its variable."""
 
     def put(term, depth):
         if term[0] == "bound":
-            return argument if term[1] == depth else ("bound", term[1] - 1, term[2]) if term[1] > depth else term
+            return lifted(argument, depth) if term[1] == depth else ("bound", term[1] - 1, term[2]) if term[1] > depth else term
         if term[0] == "comb":
             return ("comb", put(term[1], depth), put(term[2], depth))
         return ("lambda", term[1], term[2], put(term[3], depth + 1)) if term[0] == "lambda" else term
@@ -93,6 +106,15 @@ def with_put(term, part, put, depth=0):
     if term[0] == "comb":
         return ("comb", with_put(term[1], part, put, depth), with_put(term[2], part, put, depth))
     return ("lambda", term[1], term[2], with_put(term[3], part, put, depth + 1)) if term[0] == "lambda" else term
+
+
+def indices(term, depth=0):
+    """The indices of a term that are bound outside of it."""
+    if term[0] == "bound":
+        return {term[1] - depth} if term[1] >= depth else set()
+    if term[0] == "comb":
+        return indices(term[1], depth) | indices(term[2], depth)
+    return indices(term[3], depth + 1) if term[0] == "lambda" else set()
 
 
 def free_variables(*terms):
@@ -138,8 +160,8 @@ def equation(left, right):
     return ("comb", ("comb", ("constant", "=", fun(ty, fun(ty, BOOL))), left), right)
 
 
-def quantified(name, ty, body):
-    return ("comb", ("constant", "!", fun(fun(ty, BOOL), BOOL)), ("lambda", name, ty, body))
+def quantified(name, ty, body, sign="!"):
+    return ("comb", ("constant", sign, fun(fun(ty, BOOL), BOOL)), ("lambda", name, ty, body))
 
 
 def sides(sign, term):
