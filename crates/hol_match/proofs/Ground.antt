@@ -122,5 +122,5 @@ module _ (names : List (List ℕ)) (vs : List Var) (p : Nameless) (h : all_stay 
       by None e g = refl
       by (Some all) e g = absurd (other (match_is t g.0 (most_general names vs p t g.0 (e ∙ ap (λ q. Some q) g.1)).fits))
 
-pub apart : (r : SetRule) (t : Nameless) (ground : Bool) → ground ≡ true → ground ≡ all_stay r.source.value.fixed.names.items r.source.value.fixed.variables.items (set_rule r).rule.left → (strip (set_rule r).rule.left ≡ strip t → ⊥) → fit (set_rule r) t ≡ None
-apart r t ground e f other = fit_none (set_rule r) t (no_match r.source.value.fixed.names.items r.source.value.fixed.variables.items (set_rule r).rule.left (sym f ∙ e) t other)
+pub apart : (r : SetRule) (t : Nameless) (settled : Bool) → settled ≡ true → settled ≡ all_stay r.source.value.fixed.names.items r.source.value.fixed.variables.items (set_rule r).rule.left → (strip (set_rule r).rule.left ≡ strip t → ⊥) → fit (set_rule r) t ≡ None
+apart r t settled e f other = fit_none (set_rule r) t (no_match r.source.value.fixed.names.items r.source.value.fixed.variables.items (set_rule r).rule.left (sym f ∙ e) t other)

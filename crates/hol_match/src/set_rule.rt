@@ -30,8 +30,8 @@ pub struct SetRule {
     theorem: usize,
     place: usize,
     source: Rc<Source>,
-    ground: bool,
-    ghost all_stay: { ground ≡ all_stay source.value.fixed.names.items source.value.fixed.variables.items (nameless [] rule.left) },
+    settled: bool,
+    ghost all_stay: { settled ≡ all_stay source.value.fixed.names.items source.value.fixed.variables.items (nameless [] rule.left) },
     ghost way: { IsFrom source.value (rule_way rule) } by { Coded-set (coded_option rule_code) (option_map (single_rule source.value.fixed.names.items source.value.fixed.variables.items) (way rule.way (source_whole source.value))) (Some (rule_value rule)) },
 }
 
@@ -51,13 +51,13 @@ impl SetRule {
         ensures rule { IfOk result (λ r. set_rule r ≡ record { rule = rule_value rule.now; theorem = theorem; place = place; stays = stays source.now.value.fixed }) }
         ensures given { IfOk result (λ r. set_given r ≡ source.now.value.given) }
     {
-        let ground = source.fixed().has_all(alloc, rule.left())?;
+        let settled = source.fixed().has_all(alloc, rule.left())?;
         Ok(SetRule {
             rule: rule.copy()?,
             theorem,
             place,
             source: source.clone()?,
-            ground,
+            settled,
         })
     }
 
@@ -72,7 +72,7 @@ impl SetRule {
             theorem: self.theorem,
             place: self.place,
             source: self.source.clone()?,
-            ground: self.ground,
+            settled: self.settled,
         })
     }
 
@@ -154,7 +154,7 @@ impl SetRule {
     pub(crate) fn is_apart_from(&self, t: &Term) -> bool
         ensures { IsTrue result → fit (set_rule self.now) (nameless [] t.now) ≡ None }
     {
-        self.ground && !self.rule.left().alpha_equivalent(t)
+        self.settled && !self.rule.left().alpha_equivalent(t)
     }
 
     /// The number of its theorem in the list from which the set was made.
