@@ -14,6 +14,7 @@ what stands below.
 Needs `rt` on the PATH, and calls the kit's `rattle` as tests/wrong_bodies.py does. Status 0 where all is so."""
 
 import argparse
+import itertools
 import pathlib
 import re
 import subprocess
@@ -183,7 +184,7 @@ def main():
     except wrong_bodies.Unusable as why:
         print(f"refused programs: {why}\nrefused programs: 0 passed, 1 failed")
         return 1
-    for what, why in [*fields_written(crates, words.verbose), *closures_stored(crates, words.verbose)]:
+    for what, why in itertools.chain(fields_written(crates, words.verbose), closures_stored(crates, words.verbose)):
         print(f"NOT SO: {what}: {why}" if why else what, flush=True)
         passed, failed = passed + (not why), failed + bool(why)
     print(f"refused programs: {passed} passed, {failed} failed")
