@@ -1,15 +1,20 @@
 #!/usr/bin/env python3
-"""Tries programs that write a theorem or a basis by its fields, over the library of hol_kernel that `rt ci` has left: each has to be refused.
+"""Tries programs that must not be accepted, over the libraries that `rt ci` has left: each has to be refused for what is wrong with it alone.
 
     python3 tests/refused_programs.py [--over TREE] [--verbose]
 
-Only hol_kernel makes theorems and bases: elsewhere their fields are private. A program here is a crate of its own, which stands on hol_kernel as the
-crates above it do. `BASE` uses public calls alone, and has to be proved. Each of the others is `BASE` with one function more, and has to be refused for
-the fields that it writes and for nothing else, so that nothing but these stands in its way.
+Only hol_kernel makes theorems and bases: elsewhere their fields are private. A program of `PROGRAMS` is a crate of its own, which stands on hol_kernel as
+the crates above it do. `BASE` uses public calls alone, and has to be proved. Each of the others is `BASE` with one function more, and has to be refused
+for the fields that it writes and for nothing else, so that nothing but these stands in its way.
+
+Only a closure that answers what its code means can be stored under it. Each function of `CLOSURES` stores one under CONJ_TAC or GEN_TAC: a right one has
+to be proved, and of a wrong one has to be left open what `Entry::new` asks of the answers. They are one crate, since a check is mostly the reading of
+what stands below.
 
 Needs `rt` on the PATH, and calls the kit's `rattle` as tests/wrong_bodies.py does. Status 0 where all is so."""
 
 import argparse
+import itertools
 import pathlib
 import re
 import subprocess
@@ -18,7 +23,9 @@ import tempfile
 
 import wrong_bodies
 
-NAME = "refused_program"
+# The crates of the programs, and on which each stands.
+WRITING, STORING = "writes_fields", "stores_closures"
+USES = {WRITING: ["hol_kernel", "hol_subst", "hol_terms"], STORING: ["hol_registry", "hol_tac", "hol_prelude", "hol_just", "hol_goal"]}
 BASE = """//! Theorems by the kernel's public calls.
 #![tactic(auto)]
 
@@ -75,16 +82,53 @@ pub fn forged(basis: &mut Basis, other: Basis) {
 }
 """),
 ]
+ENTRIES = """//! Functions on goals that are stored under a code.
+#![tactic(auto)]
+ghost use Rattle.std.specs.Prelude.{◌≤◌};
+
+use hol_goal::{Goal, Names, TacArgs, TacCode};
+use hol_prelude::Prelude;
+use hol_registry::Entry;
+use hol_tac::tac;
+use std::alloc::{AllocError, Global};
+use std::rc::Rc;
+"""
+ENTRY = """
+pub fn %s(alloc: Global, name: String, prelude: Rc<Prelude>) -> Result<(), AllocError> {
+    let tac = Box::new(
+        alloc,
+        move |args: &TacArgs, goal: &Goal, names: &Names, turns: u32|
+            requires { turns ≤ 100000 }
+        { %s },
+    )?;
+    drop(Entry::new(name, TacCode::%s, tac));
+    Ok(())
+}
+"""
+# What a closure does, its function, its code, whether it is right, and its body.
+CLOSURES = [
+    ("CONJ_TAC gives what CONJ_TAC leaves", "conjuncts", "ConjTac", True,
+     "let tried = tac(alloc, &prelude, TacCode::ConjTac, args, goal, names, turns)?; Ok(tried)"),
+    ("CONJ_TAC gives q before p", "conjuncts_exchanged", "ConjTac", False,
+     "let mut tried = tac(alloc, &prelude, TacCode::ConjTac, args, goal, names, turns)?; tried.step.goals.reverse(); Ok(tried)"),
+    ("GEN_TAC asks about an equal goal", "bound_name", "GenTac", True,
+     "let same = goal.copy()?; let tried = tac(alloc, &prelude, TacCode::GenTac, args, &same, names, turns)?; Ok(tried)"),
+    ("GEN_TAC keeps a bound name that is free in an assumption", "bound_name_kept", "GenTac", False,
+     "let bare = Goal::new(alloc, Vec::new(alloc), goal.conclusion().copy()?)?; "
+     "let mut tried = tac(alloc, &prelude, TacCode::GenTac, args, &bare, names, turns)?; "
+     "if let Some(left) = tried.step.goals.pop() { tried.step.goals.push(goal.with_conclusion(alloc, left.conclusion())?)?; } Ok(tried)"),
+]
+ASKED = "new-requires-2-clause-answers"
 ERROR = re.compile(r"(?m)^(?:[^\s:]+:\d+:\d+: )?(error\b.*)$")
 
 
-def ran(crates, text):
-    """The status of a check of the crate that has this text, and what the check says."""
+def ran(crates, name, text):
+    """The status of a check of the crate of this name and text, and what the check says."""
     with tempfile.TemporaryDirectory(prefix="rt-edit-") as room:
         source = pathlib.Path(room) / "src"
         source.mkdir()
         (source / "lib.rt").write_text(text)
-        check = subprocess.run(crates.command(NAME, []), cwd=room, stdin=subprocess.DEVNULL, stdout=subprocess.PIPE, stderr=subprocess.STDOUT,
+        check = subprocess.run(crates.command(name, []), cwd=room, stdin=subprocess.DEVNULL, stdout=subprocess.PIPE, stderr=subprocess.STDOUT,
                                encoding="utf-8", errors="replace")
     return check.returncode, check.stdout
 
@@ -93,33 +137,56 @@ def refused_for(struct, *fields):
     return {f"error[private-field]: field `{field}` of struct `{struct}` is private" for field in fields}
 
 
+def fields_written(crates, verbose):
+    """What each program of `PROGRAMS` does, and why that isn't as it has to be: nothing where it is."""
+    for what, fields, function in [("uses public calls alone", None, ""), *PROGRAMS]:
+        status, said = ran(crates, WRITING, BASE + function)
+        errors = ERROR.findall(said)
+        if verbose:
+            print(said.rstrip())
+        if fields is None:
+            well = status == 0 and not errors and re.search(r"(?m)^holes=0$", said) is not None
+        else:
+            well = status == 1 and set(errors) == refused_for(*fields)
+        yield f"a program that {what} is {'refused' if fields else 'proved'}", "" if well else f"status {status}: {errors or last_line(said)}"
+
+
+def closures_stored(crates, verbose):
+    """The same of each closure of `CLOSURES`."""
+    text = ENTRIES + "".join(ENTRY % (function, body, code) for _, function, code, _, body in CLOSURES)
+    said = ran(crates, STORING, text)[1]
+    if verbose:
+        print(said.rstrip())
+    for what, function, _, is_right, _ in CLOSURES:
+        goals = wrong_bodies.goals_left(function, set(), said)
+        well = goals == [] if is_right else ASKED in (goals or [])
+        why = last_line(said) if goals is None else f"it leaves {goals}"
+        yield f"a closure that under {what} is {'proved' if is_right else 'refused'}", "" if well else why
+
+
+def last_line(said):
+    return said.rstrip().rpartition("\n")[2][:300]
+
+
 def main():
-    words = argparse.ArgumentParser(description="Tries programs that write a theorem or a basis by its fields.")
-    words.add_argument("--over", type=pathlib.Path, default=wrong_bodies.ROOT, metavar="TREE", help="the tree in which `rt ci` has left the libraries; else this one")
+    words = argparse.ArgumentParser(description="Tries programs that must not be accepted.")
+    words.add_argument("--over", type=pathlib.Path, default=wrong_bodies.ROOT, metavar="TREE",
+                       help="the tree in which `rt ci` has left the libraries; else this one")
     words.add_argument("--verbose", action="store_true", help="print what each check says")
     words = words.parse_args()
     passed = failed = 0
     try:
         crates = wrong_bodies.Crates(words.over.resolve())
-        crates.uses[NAME] = ["hol_kernel", "hol_subst", "hol_terms"]
-        missing = crates.missing(NAME)
+        crates.uses.update(USES)
+        missing = crates.missing(STORING)
         if missing:
             raise wrong_bodies.Unusable(f"there is no library of {', '.join(missing)} in {crates.tree}: run `rt ci` there first")
     except wrong_bodies.Unusable as why:
         print(f"refused programs: {why}\nrefused programs: 0 passed, 1 failed")
         return 1
-    for what, fields, function in [("uses public calls alone", None, ""), *PROGRAMS]:
-        status, said = ran(crates, BASE + function)
-        errors = ERROR.findall(said)
-        if words.verbose:
-            print(said.rstrip())
-        if fields is None:
-            well, result = status == 0 and not errors and re.search(r"(?m)^holes=0$", said) is not None, "accepted"
-        else:
-            well, result = status == 1 and set(errors) == refused_for(*fields), "refused: its fields are private"
-        last = said.rstrip().rpartition("\n")[2]
-        print(f"a program that {what}: {result if well else f'WRONG: status {status}: ' + ('; '.join(errors) or last)[:300]}", flush=True)
-        passed, failed = passed + well, failed + (not well)
+    for what, why in itertools.chain(fields_written(crates, words.verbose), closures_stored(crates, words.verbose)):
+        print(f"NOT SO: {what}: {why}" if why else what, flush=True)
+        passed, failed = passed + (not why), failed + bool(why)
     print(f"refused programs: {passed} passed, {failed} failed")
     return 1 if failed else 0
 
