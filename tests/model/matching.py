@@ -1,4 +1,4 @@
-"""First-order matching, MATCH_MP_TAC and BETA_TAC (docs/TACTICS.md), which are functions on goals as those of steps.py are.
+"""First-order matching, MATCH_MP_TAC and BETA_TAC (docs/TACTICS.md; docs/DECISIONS.md for names), which are functions on goals as those of steps.py are.
 
 What the outer quantifiers of a theorem bind is ("outer", (place, name), type) here."""
 
