@@ -1,6 +1,6 @@
 """Random documents and random edits, each reply to which is compared byte for byte with that of rules written anew: those of tests/model, which come from
-docs/NOTATION.md, docs/TACTICS.md and docs/PROTOCOL.md alone. They are those of the whole language but `new_basic_type_definition` and the functions on goals that
-rewrite; a document in which one of these is run is left out.
+docs/NOTATION.md, docs/TACTICS.md and docs/PROTOCOL.md alone. They are those of the whole language but `new_basic_type_definition`; a document
+in which one stands is left out.
 
 Compared are the reports on all commands, the theorems, all bases, and the number of `stats`, which may rise by the commands that an edit affects and no more: those
 that read something else than they did. At the end each refusal of each command, and each of the cases that one number has, has to have come (`WANTED`, `CASES`).
@@ -21,20 +21,20 @@ import threading
 import changed_rules
 import watched
 from edits import Command, request
-from model import alike, random_documents, random_matches
+from model import alike, random_documents, random_matches, random_rewrites
 from model.documents import Observed, basis, theorems, told
 from model.expressions import forget
 from model.grammar import COMMANDS
 from model.random_texts import CONSTANTS, Writer
 from model.refusals import Unmodelled
-from model.steps import ARGUMENTS, FUNCTIONS, unmodelled
+from model.steps import ARGUMENTS
 
 HERE = pathlib.Path(__file__).resolve().parent
 FORMS = {
     "general": random_documents.general, "edits": random_documents.general, "scopes": random_documents.scopes, "edits of scopes": random_documents.scopes,
     "declarations": random_documents.declarations, "functions": random_documents.functions, "faults": random_documents.faults, "syntax": random_documents.syntax, "turns": random_documents.turns_filled,
     "equal": alike.equal, "shapes": alike.shapes, "bound names": random_documents.bound_names, "sizes": random_documents.sizes, "tokens": random_documents.tokens,
-    "matching": random_matches.matching, "reducing": random_matches.reducing, "large goals": random_documents.large_goals, "chains": random_documents.chains, "nested": random_documents.nested,
+    "matching": random_matches.matching, "reducing": random_matches.reducing, "rewriting": random_rewrites.rewriting, "large goals": random_documents.large_goals, "chains": random_documents.chains, "nested": random_documents.nested,
 }  # fmt: skip
 # Documents of these forms take long.
 LARGE = ["sizes", "tokens", "large goals", "chains", "nested"]
@@ -46,9 +46,8 @@ WANTED = {
     "b": (3, 20), "r": (3, 16), "oops": (3,), "new_type": (2, 10), "new_constant": (2, 9, 10), "new_axiom": (2, 7, 8, 9, 10), "new_definition": (2, 7, 9, 10, 11, 12),
 }  # fmt: skip
 TACTICALS = ["THENL", "CHANGED_TAC", "FIRST", "DISCH_THEN", "POP_ASSUM", "FIRST_ASSUM"]
-MODELLED = [name for name, function in FUNCTIONS.items() if function is not unmodelled]
-ALWAYS_FIT = ["ALL_TAC", "BETA_TAC", "MP_TAC", "ASSUME_TAC", "STRIP_ASSUME_TAC", "PURE_REWRITE_TAC"]
-RESTING = [name for name in MODELLED if "t" in ARGUMENTS[name]]
+ALWAYS_FIT = ["ALL_TAC", "BETA_TAC", "MP_TAC", "ASSUME_TAC", "STRIP_ASSUME_TAC", *(name for name, kinds in ARGUMENTS.items() if kinds == "l")]
+RESTING = [name for name, kinds in ARGUMENTS.items() if "t" in kinds or kinds == "l"]
 UNMATCHED = ["no implication", "another kind of term", "another name", "another type", "two terms for a variable", "a variable that is bound inside"]
 MATCHED = [
     "a variable is quantified", "two variables are quantified", "a variable stays", "a variable gets a prime", "a free variable takes a term", "a free variable is fixed",
@@ -60,7 +59,7 @@ CASES = [
     *(f"10: a {kind} that is {stands}" for kind in ("type", "const", "thm", "tac") for stands in ("made", "built in")),
     *("13: a reading", "13: a theorem", "13: a named expression", "13: a run", "13: a run inside a named expression", "18: a run", "18: a run inside a named expression"),
     *(f"14: {rule}" for rule in ("ASSUME", "SPEC", "SYM", "CONJUNCT1", "CONJUNCT2", "MP", "INST_TYPE")),
-    *(f"15: {name}" for name in RESTING), *(f"17: {name}" for name in (*MODELLED, *TACTICALS) if name not in ALWAYS_FIT), *(f"fits: {name}" for name in MODELLED if name != "NO_TAC"),
+    *(f"15: {name}" for name in RESTING), *(f"17: {name}" for name in (*ARGUMENTS, *TACTICALS) if name not in ALWAYS_FIT), *(f"fits: {name}" for name in ARGUMENTS if name != "NO_TAC"),
     *(f"17: MATCH_MP_TAC, {why}" for why in UNMATCHED), *(f"fits: MATCH_MP_TAC, {case}" for case in MATCHED),
     *("15: inside a named expression", "17: inside a named expression", *(f"21: another {kind} stands" for kind in ("type", "const", "thm", "tac"))),
 ]
@@ -263,7 +262,7 @@ def one_form(given):
 def all_forms(given):
     counts = Counts()
     for at, turns in enumerate(TURNS):
-        plan = [(form, seed) for seed in range(given.rounds) for form in FORMS if form not in LARGE]
+        plan = [(form, seed) for seed in range(given.rounds) for form in FORMS if form not in LARGE and (turns < 50 or form != "rewriting")]
         plan += [(form, given.rounds + more) for form in ("declarations", "functions") for more in range(4)]
         plan += [("matching", given.rounds)] * (turns > 4)
         large = [LARGE[(at + more) % len(LARGE)] for more in (0, 2, 3)]

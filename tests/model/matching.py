@@ -1,9 +1,8 @@
-"""First-order matching, MATCH_MP_TAC and BETA_TAC (docs/TACTICS.md), which are functions on goals as those of steps.py are.
+"""First-order matching, and MATCH_MP_TAC by it (docs/TACTICS.md; docs/DECISIONS.md for names), which is a function on goals as those of steps.py are.
 
 What the outer quantifiers of a theorem bind is ("outer", (place, name), type) here."""
 
-from model.refusals import LIMIT, Stop
-from model.terms import TRUE, body_at, free_variables, indices, nameless, names_in, quantified, sides, size, type_of, type_put, type_variables_in, under, with_put
+from model.terms import body_at, free_variables, indices, leaves, lifted, nameless, names_in, quantified, sides, type_of, type_put, type_variables_in, under, with_put
 
 
 class Match:
@@ -21,33 +20,38 @@ class Match:
     def is_variable(self, leaf):
         return leaf[0] == "outer" or leaf[0] == "free" and leaf not in self.fixed
 
-    def why_not(self, pattern, term):
-        """Why a term is no instance of a pattern; None where it is one. A variable takes the term at its first place."""
+    def why_not(self, pattern, term, depth=0):
+        """Why a term is no instance of a pattern, both under so many lambdas of the pattern; None where it is one. A variable takes the term at its first place."""
         if self.is_variable(pattern):
-            if indices(term):
+            if any(index < depth for index in indices(term)):
                 return "a variable that is bound inside"
             if not self.fits_type(pattern[2], type_of(term)):
                 return "another type"
+            term = lifted(term, -depth)
             return None if nameless(self.terms.setdefault(pattern, term)) == nameless(term) else "two terms for a variable"
         if pattern[0] != term[0]:
             return "another kind of term"
         if pattern[0] == "comb":
-            return self.why_not(pattern[1], term[1]) or self.why_not(pattern[2], term[2])
+            return self.why_not(pattern[1], term[1], depth) or self.why_not(pattern[2], term[2], depth)
         if pattern[0] == "lambda":
-            return self.why_not(pattern[3], term[3]) if self.fits_type(pattern[2], term[2]) else "another type"
+            return self.why_not(pattern[3], term[3], depth + 1) if self.fits_type(pattern[2], term[2]) else "another type"
         if pattern[1] != term[1]:
             return "another name"
         return None if self.fits_type(pattern[2], term[2]) else "another type"
 
-    def put(self, term):
+    def put(self, term, depth=0):
         """The term with what its variables take."""
         if self.is_variable(term):
-            return self.terms[term]
+            return lifted(self.terms[term], depth)
         if term[0] == "comb":
-            return ("comb", self.put(term[1]), self.put(term[2]))
+            return ("comb", self.put(term[1], depth), self.put(term[2], depth))
         if term[0] == "lambda":
-            return ("lambda", term[1], type_put(self.types, term[2]), self.put(term[3]))
+            return ("lambda", term[1], type_put(self.types, term[2]), self.put(term[3], depth + 1))
         return (term[0], term[1], type_put(self.types, term[2]))
+
+    def variables_in(self, term):
+        """The variables of a term, and its type variables, that may take something."""
+        return {leaf for leaf in leaves(term) if self.is_variable(leaf)} | type_variables_in(term) - self.fixed_types
 
     def left_over(self, term):
         """The variables that take nothing, each once, as they occur in a term."""
@@ -70,12 +74,19 @@ class Match:
         return found
 
 
-def match_mp_tac(run, goal, theorem):
-    outer, body, match = [], theorem.conclusion, Match(theorem.hypotheses.values())
+def opened(body, place=()):
+    """What outer quantifiers bind, told apart by a place, and what stands under them."""
+    outer = []
     while under("!", body):
         function = under("!", body)
-        outer.append(("outer", (len(outer), function[1]), function[2]))
+        outer.append(("outer", (*place, len(outer), function[1]), function[2]))
         body = body_at(function, outer[-1])
+    return outer, body
+
+
+def match_mp_tac(run, goal, theorem):
+    outer, body = opened(theorem.conclusion)
+    match = Match(theorem.hypotheses.values())
     found = sides("==>", body)
     why = match.why_not(found[1], goal[1]) if found else "no implication"
     if why:
@@ -87,7 +98,7 @@ def match_mp_tac(run, goal, theorem):
     match.terms.update(called)
     left = match.put(found[0])
     for variable in reversed([variable for variable in outer if variable in left_over]):
-        _, (_, name), ty = called[variable]
+        _, (*_, name), ty = called[variable]
         left = quantified(name, ty, with_put(left, called[variable], lambda depth: ("bound", depth, ty)), "?")
     return [(goal[0], left)]
 
@@ -101,27 +112,3 @@ def cases(match, found, called):
         "a free variable is fixed": right & match.fixed, "a type variable takes a type": match.types, "a type variable is fixed": right_types & match.fixed_types,
         "a type variable stays": type_variables_in(found[0]) - match.fixed_types.union(match.types),
     }  # fmt: skip
-
-
-def reduced(term):
-    """The term with its first redex in preorder reduced, or None where it has none."""
-    if term[0] == "comb" and term[1][0] == "lambda":
-        return body_at(term[1], term[2])
-    if term[0] == "comb":
-        function = reduced(term[1])
-        if function:
-            return ("comb", function, term[2])
-        argument = reduced(term[2])
-        return argument and ("comb", term[1], argument)
-    body = reduced(term[3]) if term[0] == "lambda" else None
-    return body and ("lambda", term[1], term[2], body)
-
-
-def beta_tac(run, goal):
-    conclusion, after = goal[1], reduced(goal[1])
-    while after:
-        run.pay()
-        if size(after) > LIMIT:
-            raise Stop(13)
-        conclusion, after = after, reduced(after)
-    return [] if conclusion == TRUE else [(goal[0], conclusion)]

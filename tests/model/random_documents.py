@@ -2,7 +2,7 @@
 
 from model.documents import Observed, copied, run_command
 from model.random_texts import SEARCH, Writer, in_parentheses
-from model.steps import ARGUMENTS, FUNCTIONS, unmodelled
+from model.steps import ARGUMENTS
 from model.theories import Theory
 
 
@@ -38,12 +38,15 @@ RULED = [
 ]  # fmt: skip
 LISTED = [f"{name} THENL [{'; '.join(['ALL_TAC'] * count)}]" for name in ("CONJ_TAC", "EQ_TAC", "MK_COMB_TAC", "ALL_TAC") for count in range(4)]
 
+# Those that rewrite have documents of their own (random_rewrites.py).
+QUICK = [name for name, kinds in ARGUMENTS.items() if kinds != "l" or name == "PURE_REWRITE_TAC"]
+
 
 def step(rng, assumed, fitting):
     """A function on goals with what it takes, one that fits or any; a theorem has a hypothesis that is assumed, or another."""
     term = rng.choice([assumed, assumed, rng.choice(list(ASSUMED))])
     arguments = {"q": "`p:bool`", "t": f"(ASSUME `{term}`)", "p": rng.choice(["(`p:bool`, `y:bool`)", "(`p:bool`, `q:bool`)"]), "qt": f"`y:bool` (ASSUME `{term}`)", "": "", "l": "[]"}
-    name = rng.choice(rng.choice([fitting, [name for name, function in FUNCTIONS.items() if function is not unmodelled]]))
+    name = rng.choice(rng.choice([fitting, QUICK]))
     given = f"`{term}`" if name == "UNDISCH_TAC" else "`y:bool`" if name == "X_GEN_TAC" else arguments[ARGUMENTS[name]]
     return rng.choice([f"{name} {given}"] * 8 + [f"MP_TAC ({rng.choice(rules)})" for rules in (MISRULED, RULED, RULED)] + [rng.choice(LISTED)])
 

@@ -4,11 +4,12 @@ import functools
 
 from model.documents import Observed, copied, run_command
 from model.random_documents import with_turns
-from model.random_terms import DECLARED, IND, KINDS, Terms, bind, put, typed_text
+from model.random_terms import DECLARED, IND, KINDS, Terms, for_all, put, typed_text
 from model.showing import term_text, type_text
 from model.terms import BOOL, FALSE, TRUE, A, B, free_variables, fun, indices, joined, leaves, type_of, type_put, type_variables_in, with_put
 from model.theories import Theory
 
+OTHER = ("constant", "o", BOOL)
 CONSTANTS = [f"new_constant {name} `:{type_text(ty)}`" for name, ty in DECLARED.items()]
 
 
@@ -85,14 +86,15 @@ def one_name_at_two_types(rng, names):
     pairs = rng.sample([(name, ty) for name in names for ty in (A, B, BOOL)], rng.choice([2, 3, 3, 4, 5]) if len(names) > 1 else 3)
     variables = [("free", f"v{at}", ty) for at, (_, ty) in enumerate(pairs)]
     atom = lambda variable: ("comb", ("constant", "S", fun(variable[2], BOOL)), variable)
-    sides = [[], [], []]
+    sides, names_of_hypothesis = [[], [], []], set()
     for variable, (name, _) in zip(variables, pairs):
         for side in rng.choice([[0], [0], [0], [0], [0], [0, 1], [1], [2], [2], [1, 2]]):
-            if side < 2 or name not in [called for other, (called, _) in zip(variables, pairs) if atom(other) in sides[2]]:
+            if side < 2 or name not in names_of_hypothesis:
                 sides[side].append(atom(variable))
+                names_of_hypothesis.update([name] * (side == 2))
     sides[1] += [atom(("free", name, ty)) for name, ty in (("y", A), ("z", B)) if rng.random() < 0.8]
     sides[2] += [("constant", "x'", BOOL)] * (len(names) == 1)
-    left, right, hypothesis = (functools.reduce(lambda before, behind: joined("/\\", before, behind), reversed(side)) if side else ("constant", "o", BOOL) for side in sides)
+    left, right, hypothesis = (functools.reduce(lambda behind, before: joined("/\\", behind, before), reversed(side)) if side else OTHER for side in sides)
     return left, right, hypothesis if sides[2] else None, [(old, ("free", *pair)) for old, pair in zip(variables, pairs)]
 
 
@@ -112,10 +114,10 @@ class Lemma:
         if rng.random() < 0.08:
             self.statement, self.right = rng.choice([left, ("comb", ("constant", "~", fun(BOOL, BOOL)), left)]), FALSE
         for variable in rng.sample(outer, len(outer)) + [("free", "y", rng.choice([BOOL, A]))] * (rng.random() < 0.1):
-            self.statement = bind("!", variable, self.statement)
+            self.statement = for_all(variable, self.statement)
         self.axiom, self.text, self.called = joined("==>", self.hypothesis, self.statement) if self.hypothesis else self.statement, name, dict(called)
         for old, _ in called:
-            self.axiom = bind("!", old, self.axiom)
+            self.axiom = for_all(old, self.axiom)
         for _, new in reversed(called):
             self.text = f"(SPEC `{typed_text(new)}` {self.text})"
         if self.hypothesis:
@@ -169,8 +171,6 @@ LARGE = [
     ("{}", 35, 57, ["T", "T", "?x:A. T", "?x:A. T"]), ("{}", 37, 54, ["T", "?x:A. T"]),
     ("(\\y:bool. T) ({})", 35, 57, ["n T", "?x:A. T", "?x:A. T"]), ("(\\y:bool. T) ({})", 35, 57, ["n T", "T", "T", "?x:A. T"]),
 ]  # fmt: skip
-
-
 REDUCTIONS = ["BETA_TAC", "CHANGED_TAC BETA_TAC", "TRY BETA_TAC", "REPEAT (CHANGED_TAC BETA_TAC)", "STRIP_TAC THEN BETA_TAC"]
 
 

@@ -1,9 +1,9 @@
-"""Terms of given types by chance, and their texts with all types."""
+"""Terms of given types by chance, and texts of terms with all types."""
 
 import functools
 
 from model.showing import INFIXES, binding, sign_of, type_text
-from model.terms import BINARY, BOOL, A, B, fun, indices, joined, names_in, quantified, type_put, with_put
+from model.terms import BINARY, BOOL, A, B, base, fun, indices, joined, names_in, quantified, type_put, with_put
 
 IND = ("type", "ind", ())
 # Constants of these generic types are declared where such terms are written.
@@ -14,11 +14,10 @@ NAMES = ["x", "y", "z", "a", "x'"]
 FUNCTION_NAMES = ["f", "g", "P", "Q", "x"]
 
 
-def bind(sign, variable, term):
-    """The term under a binder of a variable; under a lambda alone where the sign is one."""
+def for_all(variable, term):
+    """The term for all of a free variable."""
     _, name, ty = variable
-    body = with_put(term, variable, lambda depth: ("bound", depth, ty))
-    return ("lambda", name.rstrip("'"), ty, body) if sign == "\\" else quantified(name.rstrip("'"), ty, body, sign)
+    return quantified(base(name), ty, with_put(term, variable, lambda depth: ("bound", depth, ty)))
 
 
 def typed_text(term, bound=()):
@@ -131,8 +130,6 @@ class Terms:
 
 def put(term, types, terms):
     """The term with these types for type variables, and closed terms for free variables as they were before."""
-    from model.terms import type_put
-
     if term in terms:
         return terms[term]
     if term[0] == "comb":

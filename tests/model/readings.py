@@ -1,7 +1,9 @@
 """Types of what is read: equations between types, solved by unification (J. A. Robinson, 1965)."""
 
+import functools
+
 from model.refusals import Refusal
-from model.terms import BINARY, BOOL, PRELUDE_CONSTANTS, base, fun
+from model.terms import BINARY, BOOL, PRELUDE_CONSTANTS, base, fun, type_variables
 
 
 class Untypable(Exception):
@@ -59,7 +61,13 @@ def type_read(written, types):
 def opened(ty, variables):
     if ty[0] == "variable":
         return variables.setdefault(ty[1], Open())
-    return ("type", ty[1], tuple(opened(part, variables) for part in ty[2]))
+    return ("type", ty[1], tuple(opened(part, variables) for part in ty[2])) if type_variables(ty) else ty
+
+
+@functools.lru_cache(maxsize=10_000)
+def is_closed(ty):
+    """Whether nothing in a type is to be found."""
+    return not isinstance(ty, Open) and (ty[0] == "variable" or all(map(is_closed, ty[2])))
 
 
 # ---- what is written in a quotation
@@ -165,7 +173,7 @@ class Reading:
         ty = seen(ty)
         if isinstance(ty, Open):
             return self.names.setdefault(ty, ("variable", f"?{len(self.names)}"))
-        return ty if ty[0] == "variable" else ("type", ty[1], tuple([self.closed_type(part) for part in ty[2]]))
+        return ty if is_closed(ty) else ("type", ty[1], tuple([self.closed_type(part) for part in ty[2]]))
 
     def closed(self, term):
         if term[0] == "comb":

@@ -1,8 +1,8 @@
-"""The functions on goals that don't rewrite (docs/TACTICS.md). A goal is its assumptions, the newest first, and its conclusion. Each function takes the run, the goal and
+"""The functions on goals (docs/TACTICS.md), but for those that match. A goal is its assumptions, the newest first, and its conclusion. Each function takes the run, the goal and
 its arguments, and gives the goals that are left, or None where it doesn't fit."""
 
-from model.matching import beta_tac, match_mp_tac
-from model.refusals import Unmodelled
+from model.matching import match_mp_tac
+from model.rewriting import asm_rewrite_tac, beta_tac, once_asm_rewrite_tac, once_rewrite_tac, pure_rewrite_tac, rewrite_tac
 from model.terms import BOOL, FALSE, TRUE, aconv, base, body_at, combs, equation, free_variables, implication, joined, quantified, sides, type_of, under, with_put
 
 # The arguments of each function: q a quotation, t a theorem, l a list of theorems, p a pair of quotations.
@@ -192,14 +192,4 @@ def strip_tac(run, goal):
     return found and stripped(run, [found[0]], (goal[0], found[1]))
 
 
-def pure_rewrite_tac(run, goal, theorems):
-    if theorems:
-        return unmodelled(run, goal)
-    return [] if goal[1] == TRUE else [goal]
-
-
-def unmodelled(run, goal, *arguments):
-    raise Unmodelled("rewriting")
-
-
-FUNCTIONS = {name: globals().get(name.lower(), unmodelled) for name in ARGUMENTS}
+FUNCTIONS = {name: globals()[name.lower()] for name in ARGUMENTS}

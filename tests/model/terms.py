@@ -143,8 +143,9 @@ def types_put(types, term):
     return (term[0], term[1], type_put(types, term[2]))
 
 
+@functools.lru_cache(maxsize=None)
 def type_variables(ty):
-    return {ty[1]} if ty[0] == "variable" else set().union(*map(type_variables, ty[2]))
+    return frozenset([ty[1]]) if ty[0] == "variable" else frozenset().union(*map(type_variables, ty[2]))
 
 
 def type_variables_in(term):
