@@ -20,8 +20,7 @@ fn is_disjunction(alloc: Global, t: &Term) -> Result<bool, AllocError> {
 
 // Whether the copy of the term as a shown goal has this text, and no free variable.
 fn is_shown(alloc: Global, t: &Term, text: &str) -> Result<bool, AllocError> {
-    let mut before = ShownBefore::new(alloc);
-    let shown = show_goal(alloc, &[], t, &mut before)?;
+    let shown = show_goal(alloc, &[], t, &mut ShownBefore::new(alloc))?;
     let copy = shown.copy(alloc)?;
     Ok(copy.goal.as_str() == text && copy.free.is_empty())
 }
