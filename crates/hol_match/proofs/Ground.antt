@@ -17,7 +17,7 @@ use Rattle.hol_subst.specs.TermTyvars.{term_tyvars}
 use Rattle.hol_subst.proofs.Commute.{subst_agree, subst_nothing}
 use Rattle.hol_subst.proofs.InstSteps.{all_there}
 use Rattle.hol_match.specs.Fixed.{all_stay}
-use Rattle.hol_match.specs.Instance.{InstanceValue, staying, both}
+use Rattle.hol_match.specs.Instance.{InstanceValue, staying}
 use Rattle.hol_match.specs.Matching.{matched}
 use Rattle.hol_match.specs.Matches.{GivesTypes, GivesTerms, IsMatch}
 use Rattle.hol_match.specs.Opening.{has_type_var}

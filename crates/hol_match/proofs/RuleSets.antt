@@ -1,5 +1,5 @@
 -- Sets of rules: what one theorem adds, and the match of a rule.
-use Rattle.std.proofs.Common.{◌≡◌, ℕ, zero, suc, ◌+◌, ◌<◌, ◌≤◌, List, [], ◌∷◌, ◌++◌, map, length, drop, get_or, slice_get, refl, sym, ap, ◌∙◌, subst, Some, None, arith}
+use Rattle.std.proofs.Common.{◌≡◌, ℕ, zero, suc, ◌+◌, ◌<◌, List, [], ◌∷◌, ◌++◌, map, length, get_or, slice_get, sym, ap, ◌∙◌, subst, Some, None, arith}
 use Rattle.std.specs.Option.{option_map}
 use Rattle.std.specs.List.{AllByRecursion}
 use Rattle.std.specs.List.Sorted.{IsStrictlySortedBy}
@@ -8,10 +8,8 @@ use Rattle.hol_terms.specs.Named.{Named, named_type}
 use Rattle.hol_terms.proofs.Typing.{type_outside}
 use Rattle.hol_terms.specs.Nameless.{Nameless, nameless}
 use Rattle.std.proofs.Math.Seq.{drop-append_seam}
-use Rattle.std.proofs.lemmas.List.{drop_all, append-nil, append_assoc}
 use Rattle.std.proofs.lemmas.Option.{slice_get-get_or}
-use Rattle.hol_types.proofs.Steps.{next_of}
-use Rattle.hol_kernel.specs.Given.{Given, given_sequent}
+use Rattle.hol_kernel.specs.Given.{Given}
 use Rattle.hol_kernel.specs.Sequent.{Sequent}
 use Rattle.hol_match.specs.Listed.{listed}
 use Rattle.hol_match.specs.Instance.{InstanceValue, instance_of, both}
@@ -23,7 +21,7 @@ use Rattle.hol_subst.proofs.HypothesisLists.{ordered_one}
 use Rattle.hol_match.specs.Rules.{RuleValue, rules_of}
 use Rattle.hol_match.specs.Fixed.{stays}
 use Rattle.hol_match.specs.Matches.{IsMatch}
-use Rattle.hol_match.specs.RuleSets.{RuleEntry, rule_entries, IsTypedRule, IsFit, entries, beside, fit}
+use Rattle.hol_match.specs.RuleSets.{RuleEntry, IsTypedRule, IsFit, entries, beside, fit}
 use Rattle.hol_match.specs.declared.set_rule.SetRule.{SetRule}
 use Rattle.hol_match.specs.SetView.{set_rule, set_rules, set_given, set_givens, AreOf, AreGivenIn, Adds, AddsFrom}
 use Rattle.hol_match.specs.declared.rule.Rule.{Rule}

@@ -40,7 +40,8 @@ use std::alloc::{AllocError, Global};
 use std::rc::Rc;
 use std::slice;
 
-/// The rules of a list of theorems and assumed terms, in order. They are found by the constants at the heads of their left sides.
+/// The rules of a list of theorems and assumed terms, in order, each theorem's once. They are found by the constants at the heads of their left
+/// sides.
 ///
 /// That `l = r` follows from a rule's theorem is shown by those who use it: from the theorem, generalized over the free variables that its
 /// hypotheses don't have, SPEC at the variables of the rule and CONJUNCT1, CONJUNCT2 on the way to its place, and then EQT_INTRO or EQF_INTRO
