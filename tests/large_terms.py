@@ -210,6 +210,8 @@ def deep_runs():
     xs, ys = (joined(" ", (f"{name}{k}" for k in range(1_300))) for name in "xy")
     opened = [f"new_axiom AX `(Q {xs}) ==> (P {xs})`", f"g N `(P {ys}):bool`", "e MATCH_MP_TAC AX"]
     yield Case("a theorem of 1,300 open types that matches", opened, "goals")
+    alike = ["new_axiom AX `!" + "x " * 2_000 + ". P x ==> Q`", "g N `Q:bool`", "e MATCH_MP_TAC AX"]
+    yield Case("2,000 binders of one name, each called by another", alike, "goals")
     rule = [f"new_axiom AX `!p. {'~' * 1_900}p <=> p`", f"g N `{'~' * 3_800}p`", "e REWRITE_TAC [AX]"]
     yield Case("a rule of 1,900 times ~", rule, "goals")
     step = "new_definition D `twice p = ~ ~ p`"

@@ -3,7 +3,6 @@ ghost use Rattle.std.specs.Prelude.{◌≡◌, ◌≤◌, ◌<◌, ◌∷◌, �
 ghost use Rattle.hol_terms.specs.Nameless.{Nameless, nameless};
 ghost use Rattle.hol_terms.specs.Primes.{with_primes};
 ghost use Rattle.hol_subst.specs.FreeName.{is_taken, IsFreeName};
-ghost use Rattle.hol_subst.specs.Marks.{Marks};
 ghost use Rattle.hol_just.specs.Fresh.{fresh};
 ghost use Rattle.hol_steps.specs.Fresh.{AreAlike, HasPrimes, IsFresh};
 
@@ -71,7 +70,7 @@ fn fresh_name(
     if !names.has(name.as_str()) {
         return Ok(FreshName { name, tested });
     }
-    let taken = taken_primes(alloc, avoid, base)?;
+    let taken = taken_primes(alloc, avoid, base.as_str())?;
     'primes: while names.has(name.as_str()) {
         name = next_name(alloc, &taken, base, &name)?;
         add_copy(&mut tested, &name)?;
@@ -83,7 +82,7 @@ fn fresh_name(
 fn next_name(alloc: Global, taken: &[bool], base: &Name, name: &Name) -> Result<Name, AllocError>
     requires { HasPrimes base.now name.now }
     ensures primed { IfOk result (λ next. HasPrimes base.now next) }
-    ensures first { IfOk result (λ next. (avoid : List Nameless) → Marks [] taken.now (λ k. is_taken avoid (with_primes k base.now)) → IsFreeName avoid (name.now ++ codes "'") next) }
+    ensures first { IfOk result (λ next. (avoid : List Nameless) → ((k : ℕ) → get_or taken.now k false ≡ is_taken avoid (with_primes k base.now)) → IsFreeName avoid (name.now ++ codes "'") next) }
 {
     let primes = name.as_str().len() - base.as_str().len();
     let next = first_from(taken, primes + 1);

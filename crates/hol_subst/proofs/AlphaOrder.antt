@@ -11,23 +11,17 @@ use Rattle.hol_types.specs.Order.{type_cmp}
 use Rattle.hol_terms.specs.Named.{Named, var, constant, comb, abs}
 use Rattle.hol_terms.specs.Nameless.{Nameless, free, bound, fixed, app, lam, place, nameless}
 use Rattle.hol_terms.specs.Alpha.{strip}
-use Rattle.hol_terms.specs.Code.{coded_nameless}
 use Rattle.hol_terms.proofs.Same.{IsPlace, place_is}
 use Rattle.hol_subst.specs.AlphaOrder.{nameless_cmp, alpha_cmp}
-use Rattle.hol_subst.specs.CodeOrder.{coded_cmp}
 use Rattle.hol_subst.specs.Ordered.{place_cmp, named_cmp}
 use Rattle.hol_types.proofs.OrderLaws.{then_equal_right}
-use Rattle.hol_subst.proofs.CodeOrder.{nameless_total, nameless_same, code_order}
+use Rattle.hol_subst.proofs.CodeOrder.{nameless_total, nameless_same}
 
 abbrev Variables : Type 0
 Variables = List (List ℕ × TypeTree)
 
 pub alpha_total : IsTotalOrder alpha_cmp
 alpha_total = on_total strip nameless_total
-
--- the order of the codes of stripped terms, by which finite sets of them are kept
-pub alpha_codes : (m n : Nameless) → alpha_cmp m n ≡ coded_cmp coded_nameless (strip m) (strip n)
-alpha_codes m n = sym (code_order (strip m) (strip n))
 
 pub alpha_ties : (m n : Nameless) → (alpha_cmp m n ≡ Equal) ↔ (strip m ≡ strip n)
 alpha_ties m n = (nameless_same (strip m) (strip n), λ e. ap (nameless_cmp (strip m)) (sym e) ∙ tied_itself nameless_total (strip m))

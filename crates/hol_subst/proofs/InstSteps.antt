@@ -1,5 +1,5 @@
 -- Instantiation of types in a named term, which renames bound variables, is instantiation in its nameless term.
-use Rattle.std.proofs.Common.{◌≡◌, ℕ, ◌+◌, List, [], ◌∷◌, ◌++◌, map, refl, ap, sym, ◌∙◌, subst, Bool, true, false, cond, ◌||◌, Option, Some, None, IsSome, is_some, unwrap_or}
+use Rattle.std.proofs.Common.{◌≡◌, ℕ, ◌+◌, List, [], ◌∷◌, ◌++◌, map, refl, ap, sym, ◌∙◌, subst, Bool, true, false, cond, ◌||◌, Option, Some, None, IsSome, is_some}
 use Rattle.std.proofs.lemmas.Bool.{or_left, or_right, or_parts}
 use Rattle.std.specs.Option.{option_map, option_and_then}
 use Rattle.hol_types.specs.Tree.{TypeTree}
@@ -15,7 +15,7 @@ use Rattle.hol_terms.proofs.Primes.{base_with_primes, fewest_other}
 use Rattle.hol_terms.proofs.Typing.{comb_type, abs_type}
 use Rattle.hol_subst.specs.Variant.{is_free_in, IsVariant}
 use Rattle.hol_subst.specs.Substitution.{variable_inst, types_inst}
-use Rattle.hol_subst.specs.Substituted.{Captures, IsBinder, put, IsInst}
+use Rattle.hol_subst.specs.Substituted.{Captures, IsBinder, put}
 use Rattle.hol_subst.specs.Renaming.{image, images_without, KeepsTypes, KeepsPlaces, IsInstance}
 use Rattle.hol_subst.proofs.Closing.{eq_same, eq_flip}
 use Rattle.hol_subst.proofs.Binders.{substituted_agree}
@@ -234,9 +234,6 @@ module _ (pairs : List (TypeTree × List ℕ)) (old new : Variables) where
 -- outside all binders nothing can be captured
 pub instance_outside : (pairs : List (TypeTree × List ℕ)) (t r : Named) → IsInstance pairs [] [] t r → nameless [] r ≡ types_inst pairs (nameless [] t)
 instance_outside pairs t r m = m.terms (λ w o i. refl)
-
-pub names_outside : (pairs : List (TypeTree × List ℕ)) (t r : Named) → IsInstance pairs [] [] t r → IsInst pairs t r
-names_outside pairs t r m = m.names
 
 -- ---- base names
 pub variant_base : (avoid : Avoided) (v u : Var) → IsVariant avoid v u → base_of u.0 ≡ base_of v.0

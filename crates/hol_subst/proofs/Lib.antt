@@ -4,6 +4,8 @@ pub mod AlphaOrder
 pub mod SameOrder
 pub mod CodeOrder
 pub mod FreeName
+pub mod PrimedNames
+pub mod Marks
 pub mod Commute
 pub mod Typing
 pub mod Rest

@@ -155,9 +155,6 @@ first_new pairs found more p v e n h = record {
   good = λ b. h.good (inr b);
 }
 
-pub first_done : (pairs : List (Named × Named)) (found : List (Named × (List ℕ × TypeTree))) → IsFirstSoFar pairs found [] → (w : List ℕ × TypeTree) → given found w ≡ named_for pairs w
-first_done pairs found h w = h.finds w
-
 -- ---- the same for one pass of a loop
 pub rest_yes : (v : List ℕ × TypeTree) (b : Named) (pairs rest new : List (Named × (List ℕ × TypeTree))) (i : ℕ) (p : Named × (List ℕ × TypeTree)) (r : Bool)
     → IsRestSoFar v b pairs rest (drop i pairs) → i < length pairs → p ≡ get_or pairs i p
@@ -203,9 +200,6 @@ first_step pairs found new i p h l e n = by p.1 refl
     by (constant c s) q = never (λ v f. let z : constant c s ≡ var v = sym q ∙ f in absurd (cc))
     by (comb f x) q = never (λ v g. let z : comb f x ≡ var v = sym q ∙ g in absurd (cc))
     by (abs w b) q = never (λ v f. let z : abs w b ≡ var v = sym q ∙ f in absurd (cc))
-
-pub first_all : (pairs : List (Named × Named)) (found : List (Named × (List ℕ × TypeTree))) (i : ℕ) → IsFirstSoFar pairs found (drop i pairs) → length pairs ≤ i → IsFirstSoFar pairs found []
-first_all pairs found i h l = subst (IsFirstSoFar pairs found) (drop_all i pairs l) h
 
 pub rest_all : (v : List ℕ × TypeTree) (b : Named) (pairs rest : List (Named × (List ℕ × TypeTree))) (i : ℕ) → IsRestSoFar v b pairs rest (drop i pairs) → length pairs ≤ i → IsRest v b pairs rest
 rest_all v b pairs rest i h l = rest_done v b pairs rest (subst (IsRestSoFar v b pairs rest) (drop_all i pairs l) h)

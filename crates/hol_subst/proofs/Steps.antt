@@ -1,5 +1,5 @@
 -- The cases of substitution in a named term, for what the code has at its ends.
-use Rattle.std.proofs.Common.{◌≡◌, ℕ, ◌+◌, ◌<◌, ◌≤◌, List, [], ◌∷◌, length, drop, get_or, refl, ap, sym, ◌∙◌, Bool, true, false, cond, subst, Option, Some, IsSome, is_some, unwrap_or, inl, inr, ◌⊎◌, ◌↔◌}
+use Rattle.std.proofs.Common.{◌≡◌, ℕ, ◌+◌, ◌<◌, ◌≤◌, List, [], ◌∷◌, length, drop, get_or, refl, ap, sym, ◌∙◌, Bool, true, false, cond, subst, Some, IsSome, is_some, unwrap_or, inl, inr, ◌⊎◌, ◌↔◌}
 use Rattle.std.proofs.lemmas.Bool.{or_parts}
 use Rattle.std.proofs.lemmas.List.{drop_all}
 use Rattle.hol_types.proofs.Steps.{next_of}
@@ -72,9 +72,6 @@ at_var ps t v r e h = subst (λ x. IsResult ps x r) (sym e) (record {
   terms = ap (nameless []) h ∙ sym (nameless_given ps v) ∙ sym (shift_whole 0 0 (term_for (named_pairs ps) v) (closed_pairs ps v));
   names = h;
 })
-
-pub at_const : (ps : List (Named × (List ℕ × TypeTree))) (t : Named) (c : List ℕ) (s : TypeTree) → t ≡ constant c s → IsResult ps t t
-at_const ps t c s e = subst (λ x. IsResult ps x x) (sym e) (record { terms = refl; names = refl })
 
 pub at_comb : (ps : List (Named × (List ℕ × TypeTree))) (t f x g y o : Named) → t ≡ comb f x → IsResult ps f g → IsResult ps x y → o ≡ comb g y → IsResult ps t o
 at_comb ps t f x g y o e p q r = subst (λ z. IsResult ps z o) (sym e) (record {

@@ -6,7 +6,7 @@ use Rattle.hol_types.specs.Equal.{variable_eq}
 use Rattle.hol_terms.specs.Nameless.{Nameless, free, bound, fixed, app, lam, free_occurrences}
 use Rattle.hol_terms.specs.Alpha.{strip}
 use Rattle.hol_subst.specs.Shift.{shift}
-use Rattle.hol_subst.specs.Closing.{close, open_with, bind}
+use Rattle.hol_subst.specs.Closing.{close, open_with}
 use Rattle.hol_subst.specs.Substitution.{term_lookup, term_for, term_subst, types_inst}
 
 pub strip_shift : (m k : ℕ) (n : Nameless) → strip (shift m k n) ≡ shift m k (strip n)
@@ -26,10 +26,6 @@ strip_close v k (bound i) = refl
 strip_close v k (fixed c s) = refl
 strip_close v k (app f x) = λ i. app (strip_close v k f i) (strip_close v k x i)
 strip_close v k (lam a s b) = ap (lam [] s) (strip_close v (k + 1) b)
-
--- terms that agree up to bound names agree so when v is bound
-pub strip_bind : (v : List ℕ × TypeTree) (m n : Nameless) → strip m ≡ strip n → strip (bind v m) ≡ strip (bind v n)
-strip_bind v m n e = ap (lam [] v.1) (strip_close v 0 m ∙ ap (close v 0) e ∙ sym (strip_close v 0 n))
 
 pub strip_open : (r : Nameless) (k : ℕ) (n : Nameless) → strip (open_with r k n) ≡ open_with (strip r) k (strip n)
 strip_open r k (free w) = refl

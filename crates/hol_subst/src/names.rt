@@ -1,5 +1,5 @@
 //! Names for new free variables.
-ghost use Rattle.std.specs.Prelude.{◌≡◌, ◌≢◌, ℕ, [], map, not, length, get_or, true, false, ◌&&◌, ◌==◌, bytes_eq, IfOk, OnOk, MatchOption, IsTrue, ◌↔◌, ◌<◌, string_bytes};
+ghost use Rattle.std.specs.Prelude.{◌≡◌, ◌≢◌, ℕ, [], map, not, length, get_or, true, false, ◌&&◌, ◌==◌, bytes_eq, IfOk, OnOk, MatchOption, IsTrue, ◌↔◌, ◌<◌};
 ghost use Rattle.hol_terms.specs.Nameless.{nameless};
 ghost use Rattle.hol_terms.specs.Primes.{with_primes};
 ghost use Rattle.hol_terms.specs.Scope.{binders};
@@ -19,7 +19,7 @@ pub fn free_name(alloc: Global, avoid: &[Term], base: &Name) -> Result<Name, All
     if !is_taken(avoid, base) {
         return base.copy();
     }
-    let taken = taken_primes(alloc, avoid, base)?;
+    let taken = taken_primes(alloc, avoid, base.as_str())?;
     with_primes(alloc, base, first_free(&taken))
 }
 
@@ -48,10 +48,10 @@ fn has_name(term: &Term, scope: &Scope, name: &Name) -> bool
     }
 }
 
-/// Whether the base with k primes is the name of a free variable or of a constant in one of the terms, at each k: no longer than those
-/// names are.
-pub fn taken_primes(alloc: Global, avoid: &[Term], base: &Name) -> Result<Vec<bool>, AllocError>
-    ensures { IfOk result (λ taken. Marks [] taken.items (λ k. is_taken (map (λ t. nameless [] t) avoid.now) (with_primes k base.now))) }
+/// Whether the base with k primes is the name of a free variable or of a constant in one of the terms, at each k: the list is no longer than
+/// those names are, and says no beyond its end.
+pub fn taken_primes(alloc: Global, avoid: &[Term], base: &str) -> Result<Vec<bool>, AllocError>
+    ensures { IfOk result (λ taken. (k : ℕ) → get_or taken.items k false ≡ is_taken (map (λ t. nameless [] t) avoid.now) (with_primes k base.now)) }
 {
     let mut taken = Vec::new(alloc);
     for term in avoid {
@@ -64,7 +64,7 @@ pub fn taken_primes(alloc: Global, avoid: &[Term], base: &Name) -> Result<Vec<bo
 fn mark_names(
     term: &Term,
     scope: &Scope,
-    base: &Name,
+    base: &str,
     taken: &mut Vec<bool>,
 ) -> Result<(), AllocError>
     ensures { OnOk result (Marks taken.old.items taken.new.items (λ k. has_name (with_primes k base.now) (nameless (binders scope.now) term.now))) }
@@ -84,22 +84,22 @@ fn mark_names(
 fn mark_variable(
     v: &Variable,
     scope: &Scope,
-    base: &Name,
+    base: &str,
     taken: &mut Vec<bool>,
 ) -> Result<(), AllocError>
     ensures { OnOk result (Marks taken.old.items taken.new.items (λ k. bytes_eq v.now.0 (with_primes k base.now) && not (binds (binders scope.now) v.now))) }
 {
-    match primes_after(v.name(), base) {
+    match primes_after(v.name().as_str(), base) {
         Some(primes) if !scope.binds(v) => mark(primes, taken),
         Some(_) | None => Ok(()),
     }
 }
 
 // The same for a name.
-fn mark_name(name: &Name, base: &Name, taken: &mut Vec<bool>) -> Result<(), AllocError>
+fn mark_name(name: &Name, base: &str, taken: &mut Vec<bool>) -> Result<(), AllocError>
     ensures { OnOk result (Marks taken.old.items taken.new.items (λ k. bytes_eq name.now (with_primes k base.now))) }
 {
-    match primes_after(name, base) {
+    match primes_after(name.as_str(), base) {
         Some(primes) => mark(primes, taken),
         None => Ok(()),
     }
@@ -119,13 +119,10 @@ fn mark(place: usize, taken: &mut Vec<bool>) -> Result<(), AllocError>
 }
 
 // How many primes the name has after the base, where it is the base with primes.
-fn primes_after(name: &Name, base: &Name) -> Option<usize>
+fn primes_after(name: &str, base: &str) -> Option<usize>
     ensures { MatchOption result ((k : ℕ) → name.now ≢ with_primes k base.now) (λ k. name.now ≡ with_primes k base.now) }
 {
-    let end = name
-        .as_str()
-        .as_bytes()
-        .strip_prefix(base.as_str().as_bytes())?;
+    let end = name.strip_prefix(base)?;
     if are_primes(end) {
         Some(end.len())
     } else {
@@ -133,13 +130,13 @@ fn primes_after(name: &Name, base: &Name) -> Option<usize>
     }
 }
 
-// Whether all the bytes are primes: the first is one, and each other equals the one before it, which is seen many bytes at a time.
-fn are_primes(bytes: &[u8]) -> bool
-    ensures { IsTrue result ↔ (bytes.now ≡ with_primes (length bytes.now) []) }
+// Whether the text is primes alone: it begins with one, and each other byte equals the one before it, which is seen many bytes at a time.
+fn are_primes(text: &str) -> bool
+    ensures { IsTrue result ↔ (text.now ≡ with_primes (length text.now) []) }
 {
-    match bytes.split_first() {
-        Some((first, rest)) => *first == b'\'' && rest == &bytes[..rest.len()],
-        None => true,
+    match text.strip_prefix('\'') {
+        Some(rest) => text.starts_with(rest),
+        None => text.is_empty(),
     }
 }
 
