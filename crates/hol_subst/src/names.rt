@@ -153,8 +153,8 @@ fn first_free(taken: &[bool]) -> usize
     taken.len()
 }
 
-/// The name with so many primes more at its end.
-pub fn with_primes(alloc: Global, base: &Name, primes: usize) -> Result<Name, AllocError>
+// The name with so many primes more at its end.
+fn with_primes(alloc: Global, base: &Name, primes: usize) -> Result<Name, AllocError>
     ensures { IfOk result (λ name. name ≡ with_primes primes base.now) }
 {
     let mut text = String::from_str(alloc, base.as_str())?;
