@@ -29,6 +29,10 @@ module _ (base name : List ℕ) (h : HasPrimes base name) where
   pub primes_more : name ≡ with_primes (length name - length base) base
   primes_more = let same = longer in h.1 ∙ primes_are h.0 (length name - length base) base (omega (arith, same))
 
+-- with so many more, of which none is left
+pub with_all : (count k : ℕ) (a text : List ℕ) → count ≤ k → k ≤ count → text ≡ with_primes k a → text ≡ with_primes count a
+with_all count k a text all most is = is ∙ primes_are k count a (omega (arith, all, most))
+
 -- what a table says of a base, by equal ones
 pub told_by : (avoid : List Nameless) (base text : List ℕ) (items taken : List Bool) → text ≡ base → taken ≡ items → ((k : ℕ) → get_or items k false ≡ is_taken avoid (with_primes k text)) →
     (k : ℕ) → get_or taken k false ≡ is_taken avoid (with_primes k base)

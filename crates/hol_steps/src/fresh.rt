@@ -93,7 +93,7 @@ fn next_name(
     let primes = name.as_str().len() - base.as_str().len();
     let next = first_from(taken, primes + 1);
     let mut text = String::from_str(alloc, name.as_str())?;
-    for _prime in primes..next {
+    for _prime in 0..next - primes {
         text.push_str("'")?;
     }
     names.named(alloc, text.as_str())
