@@ -253,6 +253,9 @@ def deep_runs():
     yield Case("a theorem of 1,300 open types that matches", opened, "goals")
     alike = ["new_axiom AX `!" + "x " * 1_500 + ". P x ==> Q`", "g N `Q:bool`", "e MATCH_MP_TAC AX"]
     yield Case("1,500 binders of one name, each called by another", alike, "goals")
+    constants = [f"new_constant x{chr(39) * k} `:bool`" for k in range(300)]
+    named = [*constants, "g N `!" + "x " * 2_190 + ". T`", "e REPEAT GEN_TAC"]
+    yield Case("2,190 binders of a name that 300 constants have with primes", named, "goals")
     rule = [f"new_axiom AX `!p. {'~' * 1_900}p <=> p`", f"g N `{'~' * 3_800}p`", "e REWRITE_TAC [AX]"]
     yield Case("a rule of 1,900 times ~", rule, "goals")
     step = "new_definition D `twice p = ~ ~ p`"

@@ -1,5 +1,5 @@
 //! A part of a list of names.
-ghost use Rattle.std.specs.Prelude.{◌≡◌, [], bytes_eq, map, IfOk};
+ghost use Rattle.std.specs.Prelude.{◌≡◌, [], bytes_eq, map, IfOk, IfSome};
 ghost use Rattle.std.specs.List.{list_any};
 ghost use Rattle.hol_goal.specs.NamePlaces.{place_of, ArePlaced};
 
@@ -64,6 +64,16 @@ impl NamePart {
         }
         is_one_of(name, &self.places[place_of(name)])
     }
+
+    /// The one of these that has this text, if there is one. Takes no memory.
+    pub(crate) fn find(&self, text: &str) -> Option<&Name>
+        ensures { IfSome result (λ name. name.now ≡ text.now) }
+    {
+        if self.places.is_empty() {
+            return found_in(text, &self.names);
+        }
+        found_in(text, &self.places[place_of(text)])
+    }
 }
 
 // The names by their places.
@@ -100,4 +110,16 @@ fn is_one_of(name: &str, list: &[Name]) -> bool
     ensures { result ≡ list_any (bytes_eq name.now) list.now }
 {
     list.iter().any(|listed| name == listed.as_str())
+}
+
+// The one of the list that has this text, if there is one.
+fn found_in<'a>(text: &str, list: &'a [Name]) -> Option<&'a Name>
+    ensures { IfSome result (λ name. name.now ≡ text.now) }
+{
+    for name in list {
+        if text == name.as_str() {
+            return Some(name);
+        }
+    }
+    None
 }

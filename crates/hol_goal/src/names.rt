@@ -72,6 +72,18 @@ impl Names {
         false
     }
 
+    /// The name of this text. Where it is one of these, that is shared.
+    pub fn named(&self, alloc: Global, text: &str) -> Result<Name, AllocError>
+        ensures { IfOk result (λ name. name ≡ text.now) }
+    {
+        for part in &self.parts {
+            if let Some(name) = part.find(text) {
+                return name.copy();
+            }
+        }
+        Name::new(alloc, text)
+    }
+
     /// Adds a name, which comes last. Where there is no memory for it, these may be fewer than they were.
     pub fn add(&mut self, alloc: Global, name: &Name) -> Result<(), AllocError>
         ensures { OnOk result (self.new ≡ self.old ++ name.now ∷ []) }

@@ -1,12 +1,10 @@
 -- The next name that is not taken, by a table of the numbers of primes after a base that are.
-use Rattle.std.specs.Prelude.{◌≡◌, ◌<◌, ◌≤◌, ◌+◌, ◌-◌, ℕ, zero, suc, Bool, true, false, ◌||◌, get_or, codes, List, [], ◌∷◌, ◌++◌, length, refl}
+use Rattle.std.specs.Prelude.{◌≡◌, ◌<◌, ◌≤◌, ◌+◌, ◌-◌, ℕ, zero, suc, Bool, true, false, get_or, codes, List, [], ◌∷◌, ◌++◌, length, refl}
 use Rattle.std.proofs.Common.{ap, sym, ◌∙◌, arith}
-use Rattle.std.proofs.lemmas.List.{get_or_past}
 use Rattle.hol_terms.specs.Nameless.{Nameless}
 use Rattle.hol_terms.specs.Primes.{with_primes}
 use Rattle.hol_terms.proofs.Primes.{primes_length}
 use Rattle.hol_subst.specs.FreeName.{is_taken, IsFreeName}
-use Rattle.hol_subst.specs.Marks.{Marks}
 use Rattle.hol_steps.specs.Fresh.{HasPrimes}
 
 primes_first : (m : ℕ) (a : List ℕ) → with_primes m (a ++ codes "'") ≡ with_primes (suc m) a
@@ -31,6 +29,15 @@ module _ (base name : List ℕ) (h : HasPrimes base name) where
   pub primes_more : name ≡ with_primes (length name - length base) base
   primes_more = let same = longer in h.1 ∙ primes_are h.0 (length name - length base) base (omega (arith, same))
 
+-- with so many more, of which none is left
+pub with_all : (count k : ℕ) (a text : List ℕ) → count ≤ k → k ≤ count → text ≡ with_primes k a → text ≡ with_primes count a
+with_all count k a text all most is = is ∙ primes_are k count a (omega (arith, all, most))
+
+-- what a table says of a base, by equal ones
+pub told_by : (avoid : List Nameless) (base text : List ℕ) (items taken : List Bool) → text ≡ base → taken ≡ items → ((k : ℕ) → get_or items k false ≡ is_taken avoid (with_primes k text)) →
+    (k : ℕ) → get_or taken k false ≡ is_taken avoid (with_primes k base)
+told_by avoid base text items taken same are h k = ap (λ (t : List Bool). get_or t k false) are ∙ h k ∙ ap (λ (a : List ℕ). is_taken avoid (with_primes k a)) same
+
 -- with primes up to the first place after those of the name that isn't marked
 module _ (taken : List Bool) (base name next : List ℕ) (k place : ℕ) (is : name ≡ with_primes k base) (later : k + 1 ≤ place) (found : next ≡ with_primes (place - k) name)
     (marked : (j : ℕ) → k + 1 ≤ j → j < place → get_or taken j false ≡ true) (first : get_or taken place false ≡ false) where
@@ -40,16 +47,13 @@ module _ (taken : List Bool) (base name next : List ℕ) (k place : ℕ) (is : n
   pub next_has : HasPrimes base next
   next_has = (place, next_is)
 
-  no_other : (avoid : List Nameless) → Marks [] taken (λ j. is_taken avoid (with_primes j base)) → (j : ℕ) → is_taken avoid (with_primes j base) ≡ get_or taken j false
-  no_other avoid marks j = sym (marks j ∙ ap (λ b. b || is_taken avoid (with_primes j base)) (get_or_past [] j false (omega arith)))
-
-  pub next_free : (avoid : List Nameless) → Marks [] taken (λ j. is_taken avoid (with_primes j base)) → IsFreeName avoid (name ++ codes "'") next
+  pub next_free : (avoid : List Nameless) → ((j : ℕ) → get_or taken j false ≡ is_taken avoid (with_primes j base)) → IsFreeName avoid (name ++ codes "'") next
   next_free avoid marks = record {
     primes = place - (k + 1);
     is = found ∙ primes_are (place - k) (suc (place - (k + 1))) name (omega (arith, later)) ∙ sym (primes_first (place - (k + 1)) name);
-    fresh = λ t. let clash : true ≡ false = sym t ∙ ap (is_taken avoid) next_is ∙ no_other avoid marks place ∙ first in absurd (cc);
+    fresh = λ t. let clash : true ≡ false = sym t ∙ ap (is_taken avoid) next_is ∙ sym (marks place) ∙ first in absurd (cc);
     least = λ j l.
         ap (is_taken avoid) (primes_first j name ∙ ap (with_primes (suc j)) is ∙ primes_sum (suc j) k base)
-        ∙ no_other avoid marks (suc j + k)
+        ∙ sym (marks (suc j + k))
         ∙ marked (suc j + k) (omega (arith, l)) (omega (arith, l, later));
   }

@@ -3,13 +3,12 @@ ghost use Rattle.std.specs.Prelude.{◌≡◌, ◌≤◌, ◌<◌, ◌∷◌, �
 ghost use Rattle.hol_terms.specs.Nameless.{Nameless, nameless};
 ghost use Rattle.hol_terms.specs.Primes.{with_primes};
 ghost use Rattle.hol_subst.specs.FreeName.{is_taken, IsFreeName};
-ghost use Rattle.hol_subst.specs.Marks.{Marks};
 ghost use Rattle.hol_just.specs.Fresh.{fresh};
 ghost use Rattle.hol_steps.specs.Fresh.{AreAlike, HasPrimes, IsFresh};
 
 use hol_goal::Names;
 use hol_just::Step;
-use hol_subst::{free_name, taken_primes, with_primes};
+use hol_subst::{free_name, taken_primes};
 use hol_terms::{Term, Variable, base_name};
 use hol_types::Name;
 use std::alloc::{AllocError, Global};
@@ -73,21 +72,31 @@ fn fresh_name(
     }
     let taken = taken_primes(alloc, avoid, base.as_str())?;
     'primes: while names.has(name.as_str()) {
-        name = next_name(alloc, &taken, base, &name)?;
+        name = next_name(alloc, names, &taken, base, &name)?;
         add_copy(&mut tested, &name)?;
     }
     Ok(FreshName { name, tested })
 }
 
 // The first name with more primes than this that isn't taken, by the numbers of primes after the base that are: so no term is gone through for it.
-fn next_name(alloc: Global, taken: &[bool], base: &Name, name: &Name) -> Result<Name, AllocError>
+fn next_name(
+    alloc: Global,
+    names: &Names,
+    taken: &[bool],
+    base: &Name,
+    name: &Name,
+) -> Result<Name, AllocError>
     requires { HasPrimes base.now name.now }
     ensures primed { IfOk result (λ next. HasPrimes base.now next) }
-    ensures first { IfOk result (λ next. (avoid : List Nameless) → Marks [] taken.now (λ k. is_taken avoid (with_primes k base.now)) → IsFreeName avoid (name.now ++ codes "'") next) }
+    ensures first { IfOk result (λ next. (avoid : List Nameless) → ((k : ℕ) → get_or taken.now k false ≡ is_taken avoid (with_primes k base.now)) → IsFreeName avoid (name.now ++ codes "'") next) }
 {
     let primes = name.as_str().len() - base.as_str().len();
     let next = first_from(taken, primes + 1);
-    with_primes(alloc, name, next - primes)
+    let mut text = String::from_str(alloc, name.as_str())?;
+    for _prime in 0..next - primes {
+        text.push_str("'")?;
+    }
+    names.named(alloc, text.as_str())
 }
 
 // The first place from this one on that isn't marked.

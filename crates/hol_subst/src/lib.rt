@@ -21,7 +21,7 @@ pub use closed::is_closed;
 pub use error::SubstError;
 pub use hypotheses::{Hypotheses, is_free_in_one};
 pub use instances::inst;
-pub use names::{free_name, taken_primes, with_primes};
+pub use names::{free_name, taken_primes};
 pub use substitution::{vsubst, vsubst_good};
 pub use tyvars::{has_tyvars_in, term_tyvars};
 pub use variants::variant;
