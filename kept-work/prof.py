@@ -1,18 +1,18 @@
-"""prof.py TREE CRATE OVER LOG [flags]: a whole check with --progress; the time between lines by function (one process)."""
-import sys, subprocess, pathlib, time, os
-tree, name, over, log = pathlib.Path(sys.argv[1]), sys.argv[2], pathlib.Path(sys.argv[3]), sys.argv[4]
-sys.path.insert(0, str(tree/"tests")); import wrong_bodies as w; w.ROOT = tree
-c = w.Crates(over).command(name, [])
-c = [x for x in c if x != "--allow-holes"] + ["--progress"] + sys.argv[5:]
-t0 = time.time(); 
-p = subprocess.Popen(c, cwd=tree/"crates"/name, stdout=subprocess.PIPE, stderr=subprocess.STDOUT, text=True)
-def cpu():
-    s = open(f"/proc/{p.pid}/stat").read(); f = s[s.rindex(")")+2:].split(); return (int(f[11])+int(f[12]))/100
-last = 0; out = open(log, "w")
-for line in p.stdout:
-    if line.startswith("checked"):
-        try: now = cpu()
-        except Exception: now = last
-        print(f"{now-last:.2f} {line.strip()}", file=out, flush=True); last = now
-    else: print("# " + line.rstrip()[:200], file=out, flush=True)
-print(f"# total {time.time()-t0:.0f} wall", file=out)
+import subprocess,sys,re
+exec(open('/tmp/qi.py').read().split("for n,(b,g,s)")[0])
+import os
+def prof(prog,before,goal,steps,n,out):
+    texts=[*before,f"g N `{goal}`",*["e "+s for s in steps],"qed"]
+    L=[new_theory(),*put(texts)]+[replace(len(texts)-1,"qed"+" "*(i+1)) for i in range(n)]
+    subprocess.run(["valgrind","--tool=callgrind","--callgrind-out-file="+out,prog,"--cache","1"],input=b"".join((l if isinstance(l,bytes) else l.encode()).rstrip(b"\n")+b"\n" for l in L),capture_output=True)
+    t=subprocess.run(["callgrind_annotate","--threshold=97",out],capture_output=True,text=True).stdout
+    d={}
+    for l in t.splitlines():
+        m=re.match(r"\s*([\d,]+) \(\s*[\d.]+%\)\s+\?\?\?:(.*?)(?: \[.*)?$",l)
+        if m: d[m[2]]=d.get(m[2],0)+int(m[1].replace(",",""))
+    return d
+b,g,s=jobs[sys.argv[2]]
+x=prof(sys.argv[1],b,g,s,1,"/tmp/cg1"); y=prof(sys.argv[1],b,g,s,11,"/tmp/cg2")
+tot=0
+rows=sorted(((y.get(k,0)-x.get(k,0))/1000 for k in {*x,*y}),reverse=True)
+for k in sorted({*x,*y},key=lambda k:-(y.get(k,0)-x.get(k,0)))[:45]: print(round((y.get(k,0)-x.get(k,0))/1000),k[:150])
