@@ -1,6 +1,6 @@
 //! The program, as a function of its words, its input and its outputs.
 
-ghost use Rattle.std.specs.Prelude.{◌≡◌, ◌≢◌, ◌⊎◌, ◌≤◌, Err, IfOk, IsOkAnd, OnOk, map};
+ghost use Rattle.std.specs.Prelude.{◌≡◌, ◌≢◌, ◌⊎◌, ◌≤◌, Err, IsOkAnd, MatchResult, OnOk, map};
 ghost use Rattle.hol_serve.specs.Begun.{Begins};
 ghost use Rattle.hol_session.specs.Ending.{Tells};
 ghost use Rattle.hol_session.specs.Lines.{read_limit};
@@ -31,7 +31,7 @@ fn serve<'a, R: Source, W: Sink>(
         × W.has_failed writer.new }
     ensures memory { result ≡ Err Ending.Memory → (reader.new ≡ reader.old) × (writer.new ≡ writer.old) }
     ensures untouched { result ≡ Err Ending.BadWords → (reader.new ≡ reader.old) × (writer.new ≡ writer.old) }
-    ensures words { result ≡ Err Ending.BadWords → IfOk words.entry (λ texts. AreBad (map (λ w. w.now) texts.now)) }
+    ensures words { result ≡ Err Ending.BadWords → MatchResult words.entry (λ texts. AreBad (map (λ w. w.now) texts.now)) (λ why. why ≡ Words.Bad) }
     ensures reads { result ≢ Err Ending.Read → R.has_failed reader.new → R.has_failed reader.old }
     ensures writes { result ≢ Err Ending.Write → W.has_failed writer.new → W.has_failed writer.old }
 {
@@ -72,7 +72,7 @@ pub(crate) fn program<'a, R: Source, W: Sink, E: Sink>(
         ⊎ ((reader.new ≡ reader.old) × (writer.new ≡ writer.old)
         × Tells ending.Memory (E.contents errors.old) (E.contents errors.new) (E.has_failed errors.new))) }
     // The words aren't the program's. Nothing was read or written.
-    ensures refused { result ≡ 2 → IfOk words.entry (λ texts. AreBad (map (λ w. w.now) texts.now))
+    ensures refused { result ≡ 2 → MatchResult words.entry (λ texts. AreBad (map (λ w. w.now) texts.now)) (λ why. why ≡ Words.Bad)
         × (reader.new ≡ reader.old) × (writer.new ≡ writer.old)
         × Tells ending.BadWords (E.contents errors.old) (E.contents errors.new) (E.has_failed errors.new) }
 {

@@ -3,7 +3,7 @@ use Rattle.std.proofs.Common.{◌≡◌, ℕ, ◌+◌, List, [], ◌∷◌, map,
 use Rattle.std.specs.Option.{option_map, option_and_then}
 use Rattle.std.proofs.lemmas.Slice.Eq.{bytes_eq-Decides}
 use Rattle.hol_types.specs.Tree.{TypeTree, TypeList, TyVar, TyApp, no_types, more_types}
-use Rattle.hol_types.specs.Fun.{fun_type, both_of}
+use Rattle.hol_types.specs.Fun.{fun_type, fun_parts, both_of}
 use Rattle.hol_types.specs.Equal.{type_eq, variable_eq}
 use Rattle.hol_types.proofs.OrderLaws.{type_cmp_decides}
 use Rattle.hol_terms.specs.Named.{Named, var, constant, comb, abs, named_type, applied_type}
@@ -32,6 +32,17 @@ applied_fits t u = ap (λ b. cond b (Some u) None) ((type_cmp_decides t t).1 ref
 
 pub comb_type : (f x : Named) (s t : TypeTree) → named_type f ≡ Some s → named_type x ≡ Some t → named_type (comb f x) ≡ applied_type s t
 comb_type f x s t p q = rw (p, q) refl
+
+-- an application that has a type has the range's, whatever the argument's
+pub range_is : (f x : Named) (s t a b : TypeTree) → named_type f ≡ Some s → named_type x ≡ Some t → fun_parts s ≡ Some (a, b) → (named_type (comb f x) ≡ None → ⊥) → named_type (comb f x) ≡ Some b
+range_is f x s t a b p q r fits = by (type_eq a t) refl
+  where
+    whole : named_type (comb f x) ≡ cond (type_eq a t) (Some b) None
+    whole = comb_type f x s t p q ∙ ap (option_and_then (λ o. cond (type_eq o.0 t) (Some o.1) None)) r
+
+    by : (c : Bool) → type_eq a t ≡ c → named_type (comb f x) ≡ Some b
+    by true e = whole ∙ ap (λ c. cond c (Some b) None) e
+    by false e = absurd (fits (whole ∙ ap (λ c. cond c (Some b) None) e))
 
 pub abs_type : (v : List ℕ × TypeTree) (b : Named) (t : TypeTree) → named_type b ≡ Some t → named_type (abs v b) ≡ Some (fun_type v.1 t)
 abs_type v b t p = rw p refl

@@ -139,13 +139,14 @@ impl Term {
         Ok(Term::application_to(alloc, f, x, range)?)
     }
 
-    /// The application of `f` to `x`, whose type is the domain of that of `f`.
-    #[tactic(auto, using(crate::proofs::Typing::comb_type))]
+    /// The application of `f` to `x`, whose type is the domain of that of `f`: no types are compared.
+    #[tactic(auto, using(crate::proofs::Typing::range_is))]
     pub fn application(alloc: Global, f: &Term, x: &Term) -> Result<Term, AllocError>
         requires { named_type (comb f.now x.now) ≡ None → ⊥ }
         ensures { IfOk result (λ t. t ≡ comb f.now x.now) }
     {
-        let Some(range) = applied(f.type_of(), x.type_of()) else {
+        let _argument = x.type_of();
+        let Some((_domain, range)) = f.type_of().dest_fun() else {
             unreachable!()
         };
         Term::application_to(alloc, f, x, range)

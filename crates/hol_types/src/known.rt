@@ -1,5 +1,5 @@
 //! The commonest names.
-ghost use Rattle.std.specs.Prelude.{◌≡◌};
+ghost use Rattle.std.specs.Prelude.{◌≡◌, ◌∷◌, []};
 ghost use Rattle.hol_types.specs.Known.{known_text, known_at};
 
 /// A name that takes no memory: those of the prelude's types and constants, and the letters of its general theorems.
@@ -81,6 +81,37 @@ impl KnownName {
 
     /// The name of the text, if it is one of these.
     pub(crate) fn of(text: &str) -> Option<KnownName>
+        ensures { result ≡ known_at text.now }
+    {
+        match text.as_bytes() {
+            [byte] => KnownName::of_byte(*byte),
+            _ => KnownName::of_text(text),
+        }
+    }
+
+    // The name of one byte, if it is one of these: most names are of one byte, and no texts are compared for them.
+    fn of_byte(byte: u8) -> Option<KnownName>
+        ensures { result ≡ known_at (byte ∷ []) }
+    {
+        match byte {
+            b'=' => Some(KnownName::Equality),
+            b'@' => Some(KnownName::Choice),
+            b'T' => Some(KnownName::Truth),
+            b'F' => Some(KnownName::Falsity),
+            b'~' => Some(KnownName::Negation),
+            b'!' => Some(KnownName::Forall),
+            b'?' => Some(KnownName::Exists),
+            b'A' => Some(KnownName::UpperA),
+            b'P' => Some(KnownName::UpperP),
+            b'p' => Some(KnownName::LowerP),
+            b'q' => Some(KnownName::LowerQ),
+            b'x' => Some(KnownName::LowerX),
+            _ => None,
+        }
+    }
+
+    // The name of the text, if it is one of these.
+    fn of_text(text: &str) -> Option<KnownName>
         ensures { result ≡ known_at text.now }
     {
         match text {
