@@ -1,25 +1,28 @@
 #!/usr/bin/env python3
 """The kernel's rules, the derived rules and whole theories beside HOL Light's, in one run, by processor time.
 
-    python3 bench/beside.py [--program PATH] [--serve PATH] [--rounds N] [--only PART]
+    python3 bench/beside.py [--program PATH] [--serve PATH] [--rounds N] [--only PART] [--best]
 
 --program is the built program crates/hol_bench/out/hol_bench, and --serve crates/hol_serve/out/hol_serve. What isn't given is left out. Parts:
 
   kernel    by hol_bench: how many of each rule of the kernel are done in a second. The work is the same in both: towers `f (f .. x)` of so many applications of 5 nodes each, and
             the theorem `t = t` of them
-  rules     the same of each rule of bool.ml, and how many rules of the kernel each takes in HOL Light, whose kernel is counted while it loads a second time. The
-            premises there are theorems `t = t` of such towers, under hypotheses of that kind where a rule takes one off. Ours is what one round more of a proof takes in
-            its `qed` (by 50 and by 150 rounds, of formulas like `T` and `x = x`), with what the `qed` does around the rules; beside it, what HOL Light's rules take
+  derived   by hol_bench: the same of each derived rule of bool.ml and equal.ml, of the same premises in both: theorems `t = t` of such towers, and what is made of them, under
+            hypotheses of that kind where a rule takes one off. Beside it, how many rules of the kernel each takes in HOL Light, whose kernel is counted while it loads a
+            second time. EQT_ELIM and IMP_ANTISYM_RULE have no call here, so HOL Light's stand alone
+  rules     by hol_serve: what one round more of a proof takes in its `qed` (by 50 and by 150 rounds, of formulas like `T` and `x = x`), with what the `qed` does around the
+            rules: it walks the step, joins its basis, takes its premise. HOL Light's rules alone stand beside it, so this is no comparison of rules: `derived` is
   theories  how long the theories of examples/theories take from nothing. HOL Light runs the same steps by its own functions of the same names; what is timed there
             are the calls alone, with the reading of their quotations, and beside it all that its toplevel takes with reading OCaml. Ours is all from the first request
 
-The rates are medians of the rounds; the library is run once. HOL Light is Debian's package (apt-get install hol-light libnum-ocaml-dev), loaded up to class.ml. Where it is not installed, only
+The rates are medians of the rounds, or by --best the best round of each side, for a processor that others share; the library is run once. HOL Light is Debian's package (apt-get install hol-light libnum-ocaml-dev), loaded up to class.ml. Where it is not installed, only
 our figures are printed.
 
 Needs Python 3.8 and Linux, and nothing else.
 """
 
 import argparse
+import functools
 import os
 import pathlib
 import re
@@ -117,6 +120,8 @@ let INST l a = incr kernel_steps; INST l a;;
 """
 DERIVED_RULES = tuple(re.findall(r'job "(\w+)"', DERIVED))
 DERIVED_HEIGHTS = tuple((height, times) for height, times in HEIGHTS if height in (4, 400))
+NO_CALL = ("eqt_elim", "imp_antisym")
+"""The derived rules that no call of ours is."""
 FEW, MANY = 50, 150
 SECONDS = 0.2  # of qeds in a round, at least
 QED_JOBS = {
@@ -153,6 +158,11 @@ RENAMED = {"COND": "CONDITION"}
 """Constants of examples/theories that HOL Light has as its own."""
 
 
+class Middle:
+    """What the seconds of some rounds come to."""
+    seconds = staticmethod(statistics.median)
+
+
 def installed():
     return os.path.exists(f"{HOL_LIGHT}/hol.ml")
 
@@ -178,7 +188,7 @@ def rates(output):
     found = {}
     for rule, height, per_second in re.findall(r"^(\w+) (\d+) (\d+)$", output, re.M):
         found.setdefault((rule, int(height)), []).append(int(per_second))
-    return {key: statistics.median(each) for key, each in found.items()}
+    return {key: (statistics.median if Middle.seconds is statistics.median else max)(each) for key, each in found.items()}
 
 
 def calls(function, heights, rounds):
@@ -198,7 +208,7 @@ def kernel_part(program, rounds):
     print(f"{'rule':12}{'nodes':>7}{'a second':>14}{'HOL Light':>14}{'ratio':>8}")
     for rule in RULES:
         for height, times in HEIGHTS:
-            ours = rate(program, rule, height, times, rounds)[0] if program else None
+            ours = rate(program, rule, height, times, rounds, Middle.seconds)[0] if program else None
             print(line_of(rule, height, ours, theirs.get((rule, height))), flush=True)
 
 
@@ -225,19 +235,34 @@ def our_rules(program, rounds):
         for _ in range(rounds):
             few, many = (qed_seconds(program, *job(count)) for count in (FEW, MANY))
             taken.append((many - few) / (MANY - FEW))
-        found[rules] = statistics.median(taken)
+        found[rules] = Middle.seconds(taken)
     return found
 
 
+@functools.lru_cache(None)
+def their_rules(rounds):
+    """The rates of HOL Light's derived rules."""
+    return rates(run_hol_light(SCRIPT + DERIVED + TIMED + calls("derived", DERIVED_HEIGHTS, rounds))) if installed() else {}
+
+
+def their_steps():
+    """How many rules of its kernel each of them takes."""
+    return rates(run_hol_light(SCRIPT + DERIVED + COUNTED, {KERNEL: COUNTING})) if installed() else {}
+
+
+def derived_part(program, rounds):
+    theirs, steps = their_rules(rounds), their_steps()
+    print(f"{'rule':12}{'nodes':>7}{'a second':>14}{'HOL Light':>14}{'ratio':>8}{'its steps':>11}")
+    for rule in DERIVED_RULES:
+        for height, times in DERIVED_HEIGHTS:
+            ours = rate(program, rule, height, times, rounds, Middle.seconds)[0] if program and rule not in NO_CALL else None
+            line = line_of(rule, height, ours, theirs.get((rule, height)))
+            print(f"{line:55}{steps[rule, 0]:11.0f}" if steps else line, flush=True)
+
+
 def rules_part(program, rounds):
-    theirs, steps = {}, {}
-    if installed():
-        theirs = rates(run_hol_light(SCRIPT + DERIVED + TIMED + calls("derived", DERIVED_HEIGHTS, rounds)))
-        steps = rates(run_hol_light(SCRIPT + DERIVED + COUNTED, {KERNEL: COUNTING}))
-    print(f"{'HOL Light':12}{'its steps':>12}" + "".join(f"{f'a second, {5 * height + 2}':>18}" for height, _ in DERIVED_HEIGHTS))
-    for rule in DERIVED_RULES if theirs else ():
-        print(f"{rule:12}{steps[rule, 0]:12.0f}" + "".join(f"{theirs[rule, height]:18,.0f}" for height, _ in DERIVED_HEIGHTS), flush=True)
-    print(f"\n{'rules':24}{'ours in a qed':>16}{'HOL Light':>12}{'ratio':>8}")
+    theirs = their_rules(rounds)
+    print(f"{'rules':24}{'ours in a qed':>16}{'HOL Light':>12}{'ratio':>8}")
     for rules, seconds in (our_rules(program, rounds) if program else {}).items():
         line = f"{' and '.join(rules):24}{1e6 * seconds:13.2f} us"
         if theirs:
@@ -297,7 +322,7 @@ def their_theories(rounds):
             sys.exit("beside: HOL Light refuses a step of examples/theories:\n" + "\n".join(failed[:5]))
         for name, calls_alone, whole in re.findall(r"^theory (\w+) ([\d.]+) ([\d.]+)$", output, re.M):
             found.setdefault(name, []).append((float(calls_alone), float(whole)))
-    return {name: tuple(statistics.median(each) for each in zip(*values)) for name, values in found.items()}
+    return {name: tuple(Middle.seconds(each) for each in zip(*values)) for name, values in found.items()}
 
 
 def our_theories(program, rounds):
@@ -307,7 +332,7 @@ def our_theories(program, rounds):
         theories = [(name, commands(name)) for name in EXAMPLES[:last]]
         runs = sum(is_run(text) for _, texts in theories for text in texts)
         taken = [measure(program, [], documents(theories), is_done, "the theories", runs) for _ in range(rounds)]
-        found[EXAMPLES[last - 1]] = statistics.median(each[2] for each in taken)
+        found[EXAMPLES[last - 1]] = Middle.seconds(each[2] for each in taken)
     return found
 
 
@@ -362,12 +387,16 @@ def main():
     parser.add_argument("--program", help="the built hol_bench")
     parser.add_argument("--serve", help="the built hol_serve")
     parser.add_argument("--rounds", type=int, default=3)
-    parser.add_argument("--only", default="", help="kernel, rules, theories or library")
+    parser.add_argument("--only", default="", help="kernel, derived, rules, theories or library")
+    parser.add_argument("--best", action="store_true", help="the best round of each side, not the median")
     given = parser.parse_args()
+    if given.best:
+        Middle.seconds = staticmethod(min)
     program, serve = (path and os.path.abspath(path) for path in (given.program, given.serve))
     if not installed():
         print("HOL Light is not installed")
-    for part, work, needed in (("kernel", kernel_part, program), ("rules", rules_part, serve), ("theories", theories_part, serve), ("library", library_part, serve)):
+    parts = (("kernel", kernel_part, program), ("derived", derived_part, program), ("rules", rules_part, serve), ("theories", theories_part, serve), ("library", library_part, serve))
+    for part, work, needed in parts:
         if given.only in part:
             work(needed, given.rounds)
 

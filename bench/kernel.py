@@ -72,12 +72,12 @@ def enough(program, job, size, times):
         times = min(int(times * max(2, min(50, 0.5 / max(seconds, 0.01)))), 1_000_000_000)
 
 
-def rate(program, job, size, times, rounds):
-    """How often the job is done in a second of processor time, and its answer."""
+def rate(program, job, size, times, rounds, middle=statistics.median):
+    """How often the job is done in a second of processor time, by the middle of the rounds, and its answer."""
     times = enough(program, job, size, times)
     runs = [processor_seconds(program, job, size, times) for _ in range(rounds)]
     idle = [processor_seconds(program, job, size, 0) for _ in range(rounds)]
-    seconds = statistics.median(run[0] for run in runs) - statistics.median(run[0] for run in idle)
+    seconds = middle(run[0] for run in runs) - middle(run[0] for run in idle)
     return times / max(seconds, 1e-6), runs[0][1]
 
 

@@ -1,5 +1,6 @@
 //! The calls that are timed.
 
+use crate::equations::EquationRule;
 use crate::failure::Failure;
 use crate::rules::Rule;
 use hol_notation_commands::read_command;
@@ -15,6 +16,8 @@ use std::cmp::Ordering;
 pub(crate) enum Call<'a> {
     /// A rule of the kernel.
     Rule(Rule<'a>),
+    /// A rule of equations.
+    Equation(EquationRule<'a>),
     /// Terms for variables of the term.
     Vsubst(&'a [(Term, Term)], &'a Term),
     /// Types for type variables of the term.
@@ -46,6 +49,7 @@ impl Call<'_> {
     fn made(&self, alloc: Global) -> Result<u32, Failure> {
         match self {
             Call::Rule(rule) => concluded(alloc, rule),
+            Call::Equation(rule) => equal(alloc, rule),
             Call::Vsubst(pairs, t) => substituted(alloc, pairs, t),
             Call::Inst(pairs, t) => instantiated(alloc, pairs, t),
             Call::Sizes(types) => Ok(sizes(types)),
@@ -57,8 +61,12 @@ impl Call<'_> {
     }
 }
 
-// The six that follow say nothing of what the calls promise, so that the loop is cheap to prove.
+// The seven that follow say nothing of what the calls promise, so that the loop is cheap to prove.
 fn concluded(alloc: Global, rule: &Rule<'_>) -> Result<u32, Failure> {
+    Ok(rule.theorem(alloc)?.concl().size())
+}
+
+fn equal(alloc: Global, rule: &EquationRule<'_>) -> Result<u32, Failure> {
     Ok(rule.theorem(alloc)?.concl().size())
 }
 

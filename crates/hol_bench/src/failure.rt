@@ -1,5 +1,7 @@
 //! Why nothing was timed.
 
+use hol_bool::BoolError;
+use hol_equal::EqualError;
 use hol_infer::ReadingError;
 use hol_kernel::KernelError;
 use hol_notation_tokens::SyntaxError;
@@ -44,6 +46,18 @@ impl From<TermError> for Failure {
 
 impl From<KernelError> for Failure {
     fn from(_e: KernelError) -> Failure {
+        Failure::Refused
+    }
+}
+
+impl From<EqualError> for Failure {
+    fn from(_e: EqualError) -> Failure {
+        Failure::Refused
+    }
+}
+
+impl From<BoolError> for Failure {
+    fn from(_e: BoolError) -> Failure {
         Failure::Refused
     }
 }

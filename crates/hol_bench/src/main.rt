@@ -3,8 +3,11 @@
 #![tactic(auto)]
 
 mod calls;
+mod derived;
+mod equations;
 mod failure;
 mod inference;
+mod premises;
 mod rules;
 mod sharing;
 mod substitution;
@@ -12,8 +15,10 @@ mod terms;
 mod theories;
 
 use crate::calls::Call;
+use crate::equations::equations;
 use crate::failure::Failure;
 use crate::inference::inference;
+use crate::premises::derived;
 use crate::rules::rules;
 use crate::sharing::sharing;
 use crate::substitution::substitution;
@@ -30,7 +35,11 @@ fn done(alloc: Global, job: &str, size: u32, times: u32) -> Result<u32, Failure>
             substitution(alloc, job, size, times)
         }
         "missing" | "checkpoint" => theories(alloc, job, size, times),
-        _ => rules(alloc, job, size, times),
+        "refl" | "trans" | "mk_comb" | "beta" | "inst" | "inst_type" => {
+            rules(alloc, job, size, times)
+        }
+        "sym" | "ap_term" | "beta_conv" => equations(alloc, job, size, times),
+        _ => derived(alloc, job, size, times),
     }
 }
 

@@ -81,7 +81,7 @@ fn congruence(alloc: Global, second: &Thm, times: u32) -> Result<u32, Failure> {
 }
 
 fn beta(alloc: Global, basis: &Basis, t: &Term, times: u32) -> Result<u32, Failure> {
-    let redex = redex(alloc, t)?;
+    let redex = redex(alloc, t, "x:A")?;
     Call::Rule(Rule::Beta(basis, &redex)).timed(alloc, times)
 }
 
@@ -95,22 +95,27 @@ fn type_instance(alloc: Global, th: &Thm, times: u32) -> Result<u32, Failure> {
     Call::Rule(Rule::InstType(&pairs, th)).timed(alloc, times)
 }
 
-// The theorem `t = t` over the basis without items.
-fn equation(alloc: Global, t: &Term) -> Result<Thm, Failure> {
+/// The theorem `t = t` over the basis without items.
+pub(crate) fn equation(alloc: Global, t: &Term) -> Result<Thm, Failure> {
     let basis = Basis::empty(alloc)?;
     reflexive(alloc, &basis, t)
 }
 
-// The theorem that the term equals itself.
-fn reflexive(alloc: Global, basis: &Basis, t: &Term) -> Result<Thm, Failure>
+/// The theorem that the term equals itself.
+pub(crate) fn reflexive(alloc: Global, basis: &Basis, t: &Term) -> Result<Thm, Failure>
     ensures { IfOk result (λ th. th.basis ≡ basis.now) }
 {
     Ok(Thm::refl(alloc, basis, t)?)
 }
 
-// `(\x. t) x`, for x of the type A.
-fn redex(alloc: Global, t: &Term) -> Result<Term, Failure> {
+/// `(\x. t) s`, for x of the type A and a term s that is written.
+pub(crate) fn redex(alloc: Global, t: &Term, argument: &str) -> Result<Term, Failure> {
+    let function = abstraction(alloc, t)?;
+    let argument = term(alloc, argument)?;
+    Ok(Term::comb(alloc, &function, &argument)?)
+}
+
+fn abstraction(alloc: Global, t: &Term) -> Result<Term, Failure> {
     let x = term(alloc, "x:A")?;
-    let function = Term::abs(alloc, &x, t)?;
-    Ok(Term::comb(alloc, &function, &x)?)
+    Ok(Term::abs(alloc, &x, t)?)
 }
