@@ -313,9 +313,9 @@ class Check:
 class Trial:
     """All edits of some crates: which are tried together, and what came of each."""
 
-    def __init__(self, crates, jobs, unedited, verbose):
+    def __init__(self, crates, unedited=False, verbose=False):
         self.crates, self.unedited, self.verbose = crates, unedited, verbose
-        self.pool, self.alone = concurrent.futures.ThreadPoolExecutor(jobs), threading.Lock()
+        self.alone = threading.Lock()
         self.passed = self.failed = 0
 
     def say(self, well, text):
@@ -323,24 +323,30 @@ class Trial:
             print(text, flush=True)
             self.passed, self.failed = self.passed + (well is True), self.failed + (well is False)
 
-    def run(self, edits_of):
-        """Tries the edits, those of the crates that stand highest first, since their checks take longest."""
-        tasks = []
+    def batches(self, edits_of):
+        """The edits that can be tried, as crates' sources and what is tried together of each: first those of the crates that stand highest, since their
+        checks take longest."""
+        found = []
         for name in sorted(edits_of, key=lambda it: -len(self.crates.below(it))):
-            missing = self.crates.missing(name)
-            if missing:
-                for edit in edits_of[name]:
-                    self.say(False, f"{edit.label}: NOT TRIED: there is no library of {', '.join(missing)} in {self.crates.tree}: run `rt ci` there first")
-                continue
             sources = Sources(name)
             fitting = [it for it in edits_of[name] if self.fits(sources, it)]
-            tasks += [(sources, batch) for batch in batches(sources, fitting)]
-        waiting = {self.pool.submit(self.tried, *task) for task in tasks}
-        while waiting:
-            done, waiting = concurrent.futures.wait(waiting, return_when=concurrent.futures.FIRST_COMPLETED)
-            for it in done:
-                waiting |= {self.pool.submit(self.tried, *task) for task in it.result()}
-        self.pool.shutdown()
+            found += [(sources, batch) for batch in batches(sources, fitting)]
+        return found
+
+    def try_all(self, sources, edits):
+        """Tries these edits, first all together."""
+        missing = self.crates.missing(sources.name)
+        for edit in edits if missing else []:
+            self.say(False, f"{edit.label}: NOT TRIED: there is no library of {', '.join(missing)} in {self.crates.tree}: run `rt ci` there first")
+        left = [] if missing else [edits]
+        while left:
+            left += self.tried(sources, left.pop(0))
+
+    def run(self, batches, jobs):
+        """Tries such batches, so many side by side."""
+        with concurrent.futures.ThreadPoolExecutor(jobs) as pool:
+            for it in [pool.submit(self.try_all, *batch) for batch in batches]:
+                it.result()
 
     def fits(self, sources, edit):
         why = edit.lacks
@@ -369,7 +375,7 @@ class Trial:
                 self.judge(edit, check)
         self.say(None, f"{sources.name}: {check.seconds:.0f} seconds for {len(edits)} edit{'s' * (len(edits) > 1)}")
         groups = [others] if 0 < len(others) < len(edits) else [[it] for it in others]
-        return [(sources, group) for group in [*([it] for it in untold), *groups]]
+        return [*([it] for it in untold), *groups]
 
     def judge(self, edit, check):
         """Says what came of an edit."""
@@ -413,6 +419,20 @@ def can_join(sources, group, edit):
     return True
 
 
+def edits_by_crate(names, words=("",), with_waiting=False):
+    """The edits of these crates whose files' names have one of the words, by crate, and how many of them are left out since they don't name their goal
+    yet: none where these are wanted too."""
+    found, waiting = {}, 0
+    for path in sorted(ROOT.glob("crates/*/must-fail/*.edit")):
+        name, edit = path.parent.parent.name, Edit(path)
+        if name in names and any(it in path.name for it in words):
+            if edit.goal == "?" and not with_waiting:
+                waiting += 1
+            else:
+                found.setdefault(name, []).append(edit)
+    return found, waiting
+
+
 def main():
     words = argparse.ArgumentParser(description="Tries the wrong bodies of crates/*/must-fail.")
     words.add_argument("crates", nargs="*", metavar="CRATE", help="the crates whose edits are tried; else all")
@@ -430,16 +450,9 @@ def main():
     except Unusable as why:
         print(f"edits: {why}\nedits: 0 passed, 1 failed")
         return 1
-    edits_of, waiting = {}, 0
-    for path in sorted(ROOT.glob("crates/*/must-fail/*.edit")):
-        name, edit = path.parent.parent.name, Edit(path)
-        if name in (words.crates or crates.uses) and (not words.edit or any(it in path.name for it in words.edit)):
-            if edit.goal == "?" and not (words.crates or words.edit):
-                waiting += 1
-            else:
-                edits_of.setdefault(name, []).append(edit)
-    trial = Trial(crates, words.jobs, words.unedited, words.verbose)
-    trial.run(edits_of)
+    edits_of, waiting = edits_by_crate(words.crates or crates.uses, words.edit or [""], bool(words.crates or words.edit))
+    trial = Trial(crates, words.unedited, words.verbose)
+    trial.run(trial.batches(edits_of), words.jobs)
     used = resource.getrusage(resource.RUSAGE_CHILDREN)
     if waiting:
         print(f"{waiting} edits were not tried: they don't name their goal yet")

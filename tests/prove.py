@@ -1,0 +1,151 @@
+#!/usr/bin/env python3
+"""Proves a tree by `rt ci`, with its checks put side by side by another rule, and tries the wrong bodies of this tree over the libraries as they come.
+
+    python3 tests/prove.py TREE
+
+TREE is a copy of this tree without crates/*/must-fail, in which `rt ci` can run. What it checks there, and what counts as passed, is the toolchain's own:
+this loads the command `rt` and has it run its `ci` as it stands, but for two things that decide no verdict.
+
+- Which checks go on at one time, and by how many processes each. `rt ci` divides the processors among all tasks that are ready, most of which have
+  nothing to do (the tests of a crate that has none), so a crate that all others wait for gets one process while processors idle. Here it gets all that
+  are idle, but one of them where others are ready. With RT_JOBS=N, N checks of one process each go on at a time, as by `rt ci`.
+- The sum of what a crate is made from, which `rt ci` makes anew along each path to a crate below it, 104,000 for the highest, and then doesn't use:
+  it is made once.
+
+The wrong bodies are tried by tests/wrong_bodies.py, where nothing else is ready. Where the toolchain's `rt` isn't as this knows it, `rt ci` itself is
+run, and then they are. Status 0 where all passed."""
+
+import functools
+import importlib.machinery
+import importlib.util
+import inspect
+import os
+import pathlib
+import shutil
+import subprocess
+import sys
+import time
+from concurrent.futures import FIRST_COMPLETED, ThreadPoolExecutor, wait
+
+import wrong_bodies
+
+# A check by more processes gains little.
+MOST = 4
+# One process more than there are processors: some of those of a check end before the others.
+MORE = 1
+# Of what `rt` expects of a check's memory, what it takes where the libraries' statements alone are loaded; and what each further process adds to it.
+TAKEN, ADDED = 0.5, 0.4
+# The memory that is expected of a check of wrong bodies, in bytes.
+EDITS_TAKE = 5_000_000_000
+
+
+def toolchain():
+    """The command `rt` as a module."""
+    path = os.path.realpath(shutil.which("rt") or "rt")
+    sys.path.insert(0, os.path.dirname(path))
+    loader = importlib.machinery.SourceFileLoader("rt", path)
+    module = importlib.util.module_from_spec(importlib.util.spec_from_loader("rt", loader))
+    loader.exec_module(module)
+    return module
+
+
+def is_known(rt):
+    """Whether `rt` has what this puts another thing in place of, and what it uses."""
+    names = ("main", "ci", "in_lanes", "processors", "free", "rtlib")
+    return all(hasattr(rt, it) for it in names) and [*inspect.signature(rt.in_lanes).parameters] == ["tasks"] and hasattr(rt.rtlib.Crate, "stamp")
+
+
+def in_order(tasks):
+    """The tasks, first those with the most work behind them, counted in lines along a chain. Each stands after those that it waits for."""
+    behind = dict.fromkeys(tasks, 0)
+    for key in reversed([*tasks]):
+        below, lines = tasks[key][:2]
+        behind[key] += lines
+        for it in below:
+            behind[it] = max(behind[it], behind[key])
+    return sorted(tasks, key=lambda it: -behind[it])
+
+
+class Room:
+    """The processors and the memory, and what the tasks that go on take of them."""
+
+    def __init__(self, processors, memory, jobs):
+        self.lanes, self.memory, self.jobs, self.taken = jobs or processors + MORE, memory, jobs, {}
+
+    def enter(self, key, needs, others):
+        """How many processes a task gets now beside those that go on, where so many others wait; 0 where it has to wait."""
+        idle = self.lanes - sum(jobs for jobs, _ in self.taken.values())
+        free = self.memory - sum(memory for _, memory in self.taken.values())
+        if idle <= 0 or self.taken and TAKEN * needs > free:
+            return 0
+        fitting = 1 + max(0, int((free / (TAKEN * needs) - 1) / ADDED))
+        jobs = 1 if self.jobs else max(1, min(MOST, idle - min(others, 1), fitting))
+        self.taken[key] = jobs, TAKEN * needs * (1 + ADDED * (jobs - 1))
+        return jobs
+
+    def leave(self, key):
+        return self.taken.pop(key, (1, 0))[0]
+
+
+def run(tasks, room):
+    """Runs the tasks, each after those that it waits for, and returns what each gave. A task without work takes no room."""
+    left, running, given = in_order(tasks), {}, {}
+    with ThreadPoolExecutor(len(tasks)) as pool:
+        while left or running:
+            ready = [key for key in left if all(below in given for below in tasks[key][0])]
+            waiting = sum(tasks[key][1] > 0 for key in ready)
+            for key in ready:
+                _, lines, needs, call = tasks[key]
+                waiting -= lines > 0
+                jobs = room.enter(key, needs, waiting) if lines else 1
+                if jobs:
+                    left.remove(key)
+                    running[pool.submit(call, given, jobs)] = key, time.time()
+            for it in wait(running, return_when=FIRST_COMPLETED).done:
+                key, begun = running.pop(it)
+                given[key] = it.result()
+                if tasks[key][1]:
+                    told(key, room.leave(key), time.time() - begun)
+    return given
+
+
+def told(key, jobs, seconds):
+    if key[1] in ("proof", "tests"):
+        print(f"{' '.join(key)}: {seconds / 60:.1f} minutes by {jobs} process{'es' * (jobs > 1)}", flush=True)
+
+
+def tries(trial, batches):
+    """The tasks of trying wrong bodies: each waits for the libraries below its crate."""
+    tasks = {}
+    for at, (sources, batch) in enumerate(batches):
+        waits = [(it, "proof") for it in trial.crates.below(sources.name)]
+        tasks[sources.name, f"wrong bodies {at}"] = waits, 1, EDITS_TAKE, lambda given, jobs, it=(sources, batch): trial.try_all(*it)
+    return tasks
+
+
+def prove(tree, trial):
+    """Runs `rt ci` in the tree, and with it the trial, and returns the status of `rt ci`."""
+    batches = trial.batches(wrong_bodies.edits_by_crate(trial.crates.uses)[0])
+    rt, number = toolchain(), os.environ.get("RT_JOBS", "")
+    jobs = int(number) if number.isdigit() else 0
+    if not is_known(rt):
+        print("prove: the toolchain's rt isn't as this script knows it: `rt ci` as it stands", flush=True)
+        status = subprocess.run(["rt", "ci"], cwd=tree).returncode
+        trial.run(batches, jobs or min(os.cpu_count() or 1, 4))
+        return status
+    rt.in_lanes = lambda tasks: run({**tasks, **tries(trial, batches)}, Room(rt.processors(), 0.85 * rt.free(), jobs))
+    rt.rtlib.Crate.stamp = functools.lru_cache(None)(rt.rtlib.Crate.stamp)
+    os.chdir(tree)
+    return rt.main(["ci"])
+
+
+def main():
+    tree = pathlib.Path(sys.argv[1]).resolve()
+    trial = wrong_bodies.Trial(wrong_bodies.Crates(tree))
+    status = prove(tree, trial)
+    print(f"edits: {trial.passed} passed, {trial.failed} failed", flush=True)
+    return 1 if trial.failed else status
+
+
+if __name__ == "__main__":
+    sys.exit(main())
