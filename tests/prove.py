@@ -8,7 +8,8 @@ this loads the command `rt` and has it run its `ci` as it stands, but for two th
 
 - Which checks go on at one time, and by how many processes each. `rt ci` divides the processors among all tasks that are ready, most of which have
   nothing to do (the tests of a crate that has none), so a crate that all others wait for gets one process while processors idle. Here it gets all that
-  are idle, but one of them where others are ready. With RT_JOBS=N, N checks of one process each go on at a time, as by `rt ci`.
+  are idle, but one of them where others are ready, and two at least where the most work waits for it. With RT_JOBS=N, N checks of one process each go
+  on at a time, as by `rt ci`.
 - The sum of what a crate is made from, which `rt ci` makes anew along each path to a crate below it, 104,000 for the highest, and then doesn't use:
   it is made once.
 
@@ -31,6 +32,8 @@ import wrong_bodies
 
 # A check by more processes gains little.
 MOST = 4
+# What the first in line gets at least, though other checks have all processors: all else waits for it in the end.
+LEAST = 2
 # One process more than there are processors: some of those of a check end before the others.
 MORE = 1
 # Of what `rt` expects of a check's memory, what it takes where the libraries' statements alone are loaded; and what each further process adds to it.
@@ -72,14 +75,15 @@ class Room:
     def __init__(self, processors, memory, jobs):
         self.lanes, self.memory, self.jobs, self.taken = jobs or processors + MORE, memory, jobs, {}
 
-    def enter(self, key, needs, others):
+    def enter(self, key, needs, others, is_first):
         """How many processes a task gets now beside those that go on, where so many others wait; 0 where it has to wait."""
+        least = LEAST if is_first and not self.jobs else 1
         idle = self.lanes - sum(jobs for jobs, _ in self.taken.values())
         free = self.memory - sum(memory for _, memory in self.taken.values())
-        if idle <= 0 or self.taken and TAKEN * needs > free:
+        if idle <= 0 and least == 1 or self.taken and TAKEN * needs > free:
             return 0
         fitting = 1 + max(0, int((free / (TAKEN * needs) - 1) / ADDED))
-        jobs = 1 if self.jobs else max(1, min(MOST, idle - min(others, 1), fitting))
+        jobs = 1 if self.jobs else max(1, min(MOST, max(idle - min(others, 1), least), fitting))
         self.taken[key] = jobs, TAKEN * needs * (1 + ADDED * (jobs - 1))
         return jobs
 
@@ -90,14 +94,16 @@ class Room:
 def run(tasks, room):
     """Runs the tasks, each after those that it waits for, and returns what each gave. A task without work takes no room."""
     left, running, given = in_order(tasks), {}, {}
+    rank = {key: at for at, key in enumerate(left)}
     with ThreadPoolExecutor(len(tasks)) as pool:
         while left or running:
             ready = [key for key in left if all(below in given for below in tasks[key][0])]
             waiting = sum(tasks[key][1] > 0 for key in ready)
+            first = min([*left, *(key for key, _ in running.values())], key=rank.get)
             for key in ready:
                 _, lines, needs, call = tasks[key]
                 waiting -= lines > 0
-                jobs = room.enter(key, needs, waiting) if lines else 1
+                jobs = room.enter(key, needs, waiting, key == first) if lines else 1
                 if jobs:
                     left.remove(key)
                     running[pool.submit(call, given, jobs)] = key, time.time()
