@@ -189,7 +189,7 @@ got f (y ∷ ys) zero x e = let q : y ≡ x = cc in ap (λ z. Some (f z)) q
 got f (y ∷ ys) (suc i) x e = got f ys i x e
 
 -- the rule of this number is there
-at_number : (rules : List SetRule) (i : ℕ) (r : SetRule) → slice_get rules i ≡ Some r → slice_get (set_rules rules) i ≡ Some (set_rule r)
+pub at_number : (rules : List SetRule) (i : ℕ) (r : SetRule) → slice_get rules i ≡ Some r → slice_get (set_rules rules) i ≡ Some (set_rule r)
 at_number rules i r e = got set_rule rules i r e
 
 get_below : (rules : List SetRule) (i : ℕ) (e : RuleEntry) → slice_get (set_rules rules) i ≡ Some e → i < length rules

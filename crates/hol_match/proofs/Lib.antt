@@ -15,6 +15,7 @@ pub mod RuleSets
 pub mod Outlines
 pub mod Under
 pub mod Contracta
+pub mod FirstEntries
 pub mod Repeated
 pub mod Apartness
 pub mod PassedOver

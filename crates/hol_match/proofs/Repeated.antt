@@ -1,8 +1,7 @@
 -- A theorem that comes again in a list adds no rule that is ever the first to match.
 use Rattle.std.proofs.Common.{◌≡◌, ℕ, zero, suc, ◌+◌, ◌<◌, ◌≤◌, List, [], ◌∷◌, ◌++◌, map, length, take, get_or, slice_get, refl, sym, ap, ◌∙◌, Option, Some, None, take_all, arith}
-use Rattle.std.specs.Option.{option_or}
-use Rattle.std.proofs.lemmas.List.{append-nil, map-append, take_more}
-use Rattle.std.proofs.lemmas.Option.{slice_get-get_or}
+use Rattle.std.specs.Option.{option_map, option_or}
+use Rattle.std.proofs.lemmas.List.{append-nil, length-map, length-take-le, map-append, take_more}
 use Rattle.hol_types.specs.Tree.{TypeTree}
 use Rattle.hol_terms.specs.Named.{Named}
 use Rattle.hol_terms.specs.Nameless.{Nameless, nameless}
@@ -12,84 +11,101 @@ use Rattle.hol_match.specs.Instance.{InstanceValue}
 use Rattle.hol_match.specs.Fixed.{stays_of}
 use Rattle.hol_match.specs.Listed.{listed}
 use Rattle.hol_match.specs.Rules.{RuleValue, rules_of}
-use Rattle.hol_match.specs.RuleSets.{RuleEntry, entries, rule_entries}
-use Rattle.hol_match.specs.Contracta.{contracta, contracted, contractum}
+use Rattle.hol_match.specs.Matching.{matched_under}
+use Rattle.hol_match.specs.RuleSets.{RuleEntry, beside, entries, rule_entries, fit_under, first_entry}
 use Rattle.hol_match.specs.SetView.{Adds, IsStated}
 
 -- ---- the first of some alternatives
-or_three : (a b c : Option Nameless) → option_or (option_or a b) c ≡ option_or a (option_or b c)
+or_three : (a b c : Option RuleEntry) → option_or (option_or a b) c ≡ option_or a (option_or b c)
 or_three None b c = refl
-or_three (Some n) b c = refl
+or_three (Some e) b c = refl
 
-or_again : (a b : Option Nameless) → option_or (option_or a b) a ≡ option_or a b
-or_again None None = refl
-or_again None (Some n) = refl
-or_again (Some m) b = refl
+-- where there is none of the last without one of the first, the last counts for nothing
+or_spared : (a b : Option RuleEntry) → (a ≡ None → b ≡ None) → option_or a b ≡ a
+or_spared None b h = h refl
+or_spared (Some e) b h = refl
 
--- ---- what the rules of theorems make of a term
+or_none : (a b : Option RuleEntry) → option_or a b ≡ None → (a ≡ None) × (b ≡ None)
+or_none None b h = (refl, h)
+or_none (Some e) b h = absurd (cc)
+
+-- ---- the first rule of theorems that matches a term
 abbrev own : ℕ → Sequent → List RuleEntry
 own i s = entries i 0 (stays_of (listed s.hyps)) (rules_of (listed s.hyps) s.concl)
 
 module _ (env : List TypeTree) (t : Nameless) where
-  -- numbers don't count
-  numbered : (i j k l : ℕ) (s : InstanceValue) (rules : List RuleValue) → contractum env (entries i k s rules) t ≡ contractum env (entries j l s rules) t
-  numbered i j k l s [] = refl
-  numbered i j k l s (r ∷ rules) = ap (option_or (contracted env (record { rule = r; theorem = i; place = k; stays = s }) t)) (numbered i j (k + 1) (l + 1) s rules)
+  -- whether there is one doesn't go by numbers
+  none_numbered : (i j k l : ℕ) (s : InstanceValue) (rules : List RuleValue) → first_entry (entries i k s rules) env t ≡ None → first_entry (entries j l s rules) env t ≡ None
+  none_numbered i j k l s [] h = refl
+  none_numbered i j k l s (r ∷ rules) h =
+      by (option_map (beside s) (matched_under env 0 r.left s t)) (none_numbered i j (k + 1) (l + 1) s rules) h
+    where
+      by : (o : Option InstanceValue) → (first_entry (entries i (k + 1) s rules) env t ≡ None → first_entry (entries j (l + 1) s rules) env t ≡ None) → option_or (option_map (λ a. record { rule = r; theorem = i; place = k; stays = s }) o) (first_entry (entries i (k + 1) s rules) env t) ≡ None → option_or (option_map (λ a. record { rule = r; theorem = j; place = l; stays = s }) o) (first_entry (entries j (l + 1) s rules) env t) ≡ None
+      by None n g = n g
+      by (Some a) n g = absurd (cc)
 
-  joined : (xs ys : List RuleEntry) → contractum env (xs ++ ys) t ≡ option_or (contractum env xs t) (contractum env ys t)
+  joined : (xs ys : List RuleEntry) → first_entry (xs ++ ys) env t ≡ option_or (first_entry xs env t) (first_entry ys env t)
   joined [] ys = refl
-  joined (e ∷ xs) ys = ap (option_or (contracted env e t)) (joined xs ys) ∙ sym (or_three (contracted env e t) (contractum env xs t) (contractum env ys t))
+  joined (e ∷ xs) ys =
+      let o = option_map (λ (a : InstanceValue). e) (fit_under env e t) in
+      ap (option_or o) (joined xs ys) ∙ sym (or_three o (first_entry xs env t) (first_entry ys env t))
 
-  one_more : (k m : ℕ) (xs : List Sequent) (s : Sequent) → contractum env (rule_entries k (xs ++ s ∷ [])) t ≡ option_or (contractum env (rule_entries k xs) t) (contractum env (own m s) t)
-  one_more k m [] s = ap (λ es. contractum env es t) (append-nil (own k s)) ∙ numbered k m 0 0 (stays_of (listed s.hyps)) (rules_of (listed s.hyps) s.concl)
-  one_more k m (x ∷ xs) s =
+  one_more : (k : ℕ) (xs : List Sequent) (s : Sequent) → first_entry (rule_entries k (xs ++ s ∷ [])) env t ≡ option_or (first_entry (rule_entries k xs) env t) (first_entry (own (k + length xs) s) env t)
+  one_more k [] s =
+      let here : k ≡ k + 0 = omega arith in
+      ap (λ es. first_entry es env t) (append-nil (own k s)) ∙ ap (λ i. first_entry (own i s) env t) here
+  one_more k (x ∷ xs) s =
+      let n = k + suc (length xs) in
+      let same : k + 1 + length xs ≡ n = omega arith in
       joined (own k x) (rule_entries (k + 1) (xs ++ s ∷ []))
-      ∙ ap (option_or (contractum env (own k x) t)) (one_more (k + 1) m xs s)
-      ∙ sym (or_three (contractum env (own k x) t) (contractum env (rule_entries (k + 1) xs) t) (contractum env (own m s) t))
-      ∙ ap (λ o. option_or o (contractum env (own m s) t)) (sym (joined (own k x) (rule_entries (k + 1) xs)))
+      ∙ ap (option_or (first_entry (own k x) env t)) (one_more (k + 1) xs s ∙ ap (λ i. option_or (first_entry (rule_entries (k + 1) xs) env t) (first_entry (own i s) env t)) same)
+      ∙ sym (or_three (first_entry (own k x) env t) (first_entry (rule_entries (k + 1) xs) env t) (first_entry (own n s) env t))
+      ∙ ap (λ o. option_or o (first_entry (own n s) env t)) (sym (joined (own k x) (rule_entries (k + 1) xs)))
 
-  no_more : (k m : ℕ) (xs : List Sequent) (j : ℕ) (s : Sequent) → slice_get xs j ≡ Some s → option_or (contractum env (rule_entries k xs) t) (contractum env (own m s) t) ≡ contractum env (rule_entries k xs) t
-  no_more k m [] j s e = absurd (cc)
-  no_more k m (x ∷ xs) zero s e =
+  -- where no rule of theorems matches, none of one of them does
+  none_again : (k m : ℕ) (xs : List Sequent) (j : ℕ) (s : Sequent) → slice_get xs j ≡ Some s → first_entry (rule_entries k xs) env t ≡ None → first_entry (own m s) env t ≡ None
+  none_again k m [] j s e h = absurd (cc)
+  none_again k m (x ∷ xs) zero s e h =
       let same : s ≡ x = cc in
-      let first : contractum env (own m s) t ≡ contractum env (own k x) t =
-      ap (λ z. contractum env (own m z) t) same ∙ numbered m k 0 0 (stays_of (listed x.hyps)) (rules_of (listed x.hyps) x.concl) in
-      (λ i. option_or (joined (own k x) (rule_entries (k + 1) xs) i) (first i))
-      ∙ or_again (contractum env (own k x) t) (contractum env (rule_entries (k + 1) xs) t)
-      ∙ sym (joined (own k x) (rule_entries (k + 1) xs))
-  no_more k m (x ∷ xs) (suc j) s e =
-      ap (λ o. option_or o (contractum env (own m s) t)) (joined (own k x) (rule_entries (k + 1) xs))
-      ∙ or_three (contractum env (own k x) t) (contractum env (rule_entries (k + 1) xs) t) (contractum env (own m s) t)
-      ∙ ap (option_or (contractum env (own k x) t)) (no_more (k + 1) m xs j s e)
-      ∙ sym (joined (own k x) (rule_entries (k + 1) xs))
+      let none = or_none (first_entry (own k x) env t) (first_entry (rule_entries (k + 1) xs) env t) (sym (joined (own k x) (rule_entries (k + 1) xs)) ∙ h) in
+      ap (λ z. first_entry (own m z) env t) same ∙ none_numbered k m 0 0 (stays_of (listed x.hyps)) (rules_of (listed x.hyps) x.concl) none.0
+  none_again k m (x ∷ xs) (suc j) s e h =
+      let none = or_none (first_entry (own k x) env t) (first_entry (rule_entries (k + 1) xs) env t) (sym (joined (own k x) (rule_entries (k + 1) xs)) ∙ h) in
+      none_again (k + 1) m xs j s e none.1
 
--- ---- what is made of the first theorems
-abbrev pub Makes : List Given → ℕ → List RuleEntry → Type 0
-Makes thms i es = (env : List TypeTree) (t : Nameless) → contractum env es t ≡ contractum env (rule_entries 0 (map given_sequent (take i thms))) t
+  no_more : (m : ℕ) (xs : List Sequent) (s : Sequent) → IsStated xs s → option_or (first_entry (rule_entries 0 xs) env t) (first_entry (own m s) env t) ≡ first_entry (rule_entries 0 xs) env t
+  no_more m xs s h = or_spared (first_entry (rule_entries 0 xs) env t) (first_entry (own m s) env t) (none_again 0 m xs h.0 s h.1)
 
-pub makes_first : (thms : List Given) → Makes thms 0 []
-makes_first thms = λ env t. refl
+-- ---- the rules of the first theorems
+abbrev pub HasFirst : List Given → ℕ → List RuleEntry → Type 0
+HasFirst thms i es = (env : List TypeTree) (t : Nameless) → first_entry es env t ≡ first_entry (rule_entries 0 (map given_sequent (take i thms))) env t
+
+pub first_begins : (thms : List Given) → HasFirst thms 0 []
+first_begins thms = λ env t. refl
 
 taken : (thms : List Given) (i : ℕ) (g : Given) → i < length thms → g ≡ get_or thms i g → map given_sequent (take (i + 1) thms) ≡ map given_sequent (take i thms) ++ given_sequent g ∷ []
 taken thms i g l e = ap (map given_sequent) (take_more thms i g l ∙ ap (λ h. take i thms ++ h ∷ []) (sym e)) ∙ map-append given_sequent (take i thms) (g ∷ [])
 
-pub makes_next : (thms : List Given) (es new : List RuleEntry) (i : ℕ) (g : Given) → i < length thms → g ≡ get_or thms i g → Makes thms i es → Adds i (given_sequent g) es new → Makes thms (i + 1) new
-makes_next thms es new i g l e h a = λ env t.
+pub first_next : (thms : List Given) (es new : List RuleEntry) (i : ℕ) (g : Given) → i < length thms → g ≡ get_or thms i g → HasFirst thms i es → Adds i (given_sequent g) es new → HasFirst thms (i + 1) new
+first_next thms es new i g l e h a = λ env t.
     let s = given_sequent g in
     let before = map given_sequent (take i thms) in
-    ap (λ xs. contractum env xs t) a ∙ joined env t es (own i s) ∙ ap (λ o. option_or o (contractum env (own i s) t)) (h env t)
-    ∙ sym (one_more env t 0 i before s) ∙ ap (λ xs. contractum env (rule_entries 0 xs) t) (sym (taken thms i g l e))
+    let count : length before ≡ i = length-map (take i thms) given_sequent ∙ length-take-le i thms (omega (arith, l)) in
+    let number : i ≡ 0 + length before = omega (arith, count) in
+    ap (λ xs. first_entry xs env t) a ∙ joined env t es (own i s)
+    ∙ (λ k. option_or (h env t k) (first_entry (own (number k) s) env t))
+    ∙ sym (one_more env t 0 before s) ∙ ap (λ xs. first_entry (rule_entries 0 xs) env t) (sym (taken thms i g l e))
 
-pub makes_again : (thms : List Given) (es : List RuleEntry) (i : ℕ) (g : Given) → i < length thms → g ≡ get_or thms i g → IsStated (map given_sequent (take i thms)) (given_sequent g) → Makes thms i es → Makes thms (i + 1) es
-makes_again thms es i g l e there h = λ env t.
+pub first_again : (thms : List Given) (es : List RuleEntry) (i : ℕ) (g : Given) → i < length thms → g ≡ get_or thms i g → IsStated (map given_sequent (take i thms)) (given_sequent g) → HasFirst thms i es → HasFirst thms (i + 1) es
+first_again thms es i g l e there h = λ env t.
     let s = given_sequent g in
     let before = map given_sequent (take i thms) in
-    h env t ∙ sym (no_more env t 0 i before there.0 s there.1) ∙ sym (one_more env t 0 i before s) ∙ ap (λ xs. contractum env (rule_entries 0 xs) t) (sym (taken thms i g l e))
+    h env t ∙ sym (no_more env t (0 + length before) before s there) ∙ sym (one_more env t 0 before s) ∙ ap (λ xs. first_entry (rule_entries 0 xs) env t) (sym (taken thms i g l e))
 
-pub makes_last : (thms : List Given) (i : ℕ) (es : List RuleEntry) → length thms ≤ i → Makes thms i es → contracta es ≡ contracta (rule_entries 0 (map given_sequent thms))
-makes_last thms i es l h = λ k env t. (h env t ∙ ap (λ gs. contractum env (rule_entries 0 (map given_sequent gs)) t) (take_all i thms l)) k
+pub first_last : (thms : List Given) (i : ℕ) (es : List RuleEntry) → length thms ≤ i → HasFirst thms i es → first_entry es ≡ first_entry (rule_entries 0 (map given_sequent thms))
+first_last thms i es l h = λ k env t. (h env t ∙ ap (λ gs. first_entry (rule_entries 0 (map given_sequent gs)) env t) (take_all i thms l)) k
 
-pub ruleset making = (makes_first, makes_next, makes_again, makes_last)
+pub ruleset making = (first_begins, first_next, first_again, first_last)
 
 -- ---- theorems with the same nodes
 pub same_sequent : (a b : Sequent) (p q : Named) (ps qs : List Named) → nameless [] p ≡ a.concl → nameless [] q ≡ b.concl → hyps_of ps ≡ a.hyps → hyps_of qs ≡ b.hyps → p ≡ q → ps ≡ qs → a ≡ b

@@ -1,7 +1,7 @@
 -- The rules of some theorems, each with the number of its theorem and its place among that theorem's rules, and the first one that fits a term.
 -- Source: this project.
 use Rattle.std.specs.Prelude.{◌≡◌, ℕ, ◌+◌, List, [], ◌∷◌, ◌++◌, length, drop, Option, Some, None, slice_get}
-use Rattle.std.specs.Option.{option_map}
+use Rattle.std.specs.Option.{option_map, option_or}
 use Rattle.hol_types.specs.Tree.{TypeTree}
 use Rattle.hol_terms.specs.Nameless.{Nameless, nameless_type}
 use Rattle.hol_kernel.specs.Sequent.{Sequent}
@@ -56,6 +56,11 @@ or_later i (Some a) later = Some (i, a)
 abbrev pub first_fit : ℕ → List RuleEntry → Nameless → Option (ℕ × InstanceValue)
 first_fit i [] t = None
 first_fit i (e ∷ es) t = or_later i (fit e t) (first_fit (i + 1) es t)
+
+-- the first rule whose left side matches a term under binders of the types env
+abbrev pub first_entry : List RuleEntry → List TypeTree → Nameless → Option RuleEntry
+first_entry [] env t = None
+first_entry (e ∷ es) env t = option_or (option_map (λ a. e) (fit_under env e t)) (first_entry es env t)
 
 -- the rule of number f.0 is there, its sides have one type, and f.1 is a match of its left side with the term
 pub record IsFit (es : List RuleEntry) (t : Nameless) (f : ℕ × InstanceValue) : Type 0 where

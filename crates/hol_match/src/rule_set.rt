@@ -10,7 +10,7 @@ ghost use Rattle.hol_terms.specs.Nameless.{nameless};
 ghost use Rattle.hol_subst.specs.AlphaOrder.{nameless_cmp};
 ghost use Rattle.hol_subst.specs.Hypotheses.{hyp_of, hyps_of};
 ghost use Rattle.hol_kernel.specs.Given.{given_sequent};
-ghost use Rattle.hol_match.specs.RuleSets.{rule_entries, IsTypedRule, IsFit, entries, fit, first_fit};
+ghost use Rattle.hol_match.specs.RuleSets.{rule_entries, IsTypedRule, IsFit, entries, fit, first_entry, first_fit};
 ghost use Rattle.hol_match.specs.Contracta.{contracta, contracted, contractum, HasNoRedex};
 ghost use Rattle.hol_match.specs.Apart.{IsApart, AddsVariables, rule_variables};
 ghost use Rattle.hol_match.specs.SetView.{set_rule, set_rules, set_given, set_givens, IsGivenIn, IsStated, AreOf, Adds, AddsFrom};
@@ -60,9 +60,10 @@ pub struct RuleSet {
 }
 
 impl RuleSet {
-    /// The rules of the theorems, and of assumed terms `p`, which are read as `{p} |- p`. What they make of a term is what the first of
-    /// these rules that matches makes of it, so that a theorem that comes again adds none.
+    /// The rules of the theorems, and of assumed terms `p`, which are read as `{p} |- p`. The first of them that matches a term is the set's
+    /// first, so that a theorem that comes again adds none.
     pub fn new(alloc: Global, thms: &[Given]) -> Result<RuleSet, AllocError>
+        ensures first { IfOk result (λ set. first_entry (set_rules set.rules.items) ≡ first_entry (rule_entries 0 (map given_sequent thms.now))) }
         ensures rules { IfOk result (λ set. contracta (set_rules set.rules.items) ≡ contracta (rule_entries 0 (map given_sequent thms.now))) }
         ensures given { IfOk result (λ set. AreOf thms.now set.rules.items) }
     {
@@ -117,8 +118,9 @@ impl RuleSet {
     }
 
     /// The first rule that matches the term, and what it makes of it: the match of its right side.
-    #[tactic(auto, using(crate::proofs::Contracta::contracting))]
+    #[tactic(auto, using(crate::proofs::Contracta::contracting, crate::proofs::FirstEntries::no_entry))]
     pub fn contract(&self, alloc: Global, t: &Term) -> Result<Option<(&SetRule, Term)>, AllocError>
+        ensures first { IfOk result (λ found. MatchOption found (first_entry (set_rules self.now.rules.items) [] (nameless [] t.now) ≡ None) (λ c. first_entry (set_rules self.now.rules.items) [] (nameless [] t.now) ≡ Some (set_rule c.0.now))) }
         ensures is { IfOk result (λ found. MatchOption found (contractum [] (set_rules self.now.rules.items) (nameless [] t.now) ≡ None) (λ c. contractum [] (set_rules self.now.rules.items) (nameless [] t.now) ≡ Some (nameless [] c.1))) }
         ensures typed { IfOk result (λ found. IfSome found (λ c. named_type c.1 ≡ named_type t.now)) }
         ensures rule { IfOk result (λ found. IfSome found (λ c. contracted [] (set_rule c.0.now) (nameless [] t.now) ≡ Some (nameless [] c.1))) }
@@ -264,6 +266,7 @@ fn rules_depth(rules: &[SetRule]) -> Option<usize>
 // The rules of the theorems, each theorem's once, and the variables that stay in some rule or stand in a right side, each once.
 #[tactic(auto, using(crate::proofs::Repeated::making, crate::proofs::RuleSets::given_more))]
 fn all_rules(alloc: Global, thms: &[Given]) -> Result<(Vec<SetRule>, Vec<Variable>), AllocError>
+    ensures first { IfOk result (λ all. first_entry (set_rules all.0.items) ≡ first_entry (rule_entries 0 (map given_sequent thms.now))) }
     ensures rules { IfOk result (λ all. contracta (set_rules all.0.items) ≡ contracta (rule_entries 0 (map given_sequent thms.now))) }
     ensures given { IfOk result (λ all. AreOf thms.now all.0.items) }
     ensures variables { IfOk result (λ all. all.1.items ≡ rule_variables [] (set_rules all.0.items)) }
