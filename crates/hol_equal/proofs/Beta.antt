@@ -17,7 +17,7 @@ use Rattle.hol_subst.specs.Closing.{open_with}
 use Rattle.hol_subst.specs.Shift.{shift}
 use Rattle.hol_subst.specs.Substitution.{term_subst}
 use Rattle.hol_subst.specs.Laws.{IsUntouched}
-use Rattle.hol_subst.proofs.Closing.{eq_same, closed_named, shift_whole, nameless_abs, close_binds, close_under}
+use Rattle.hol_subst.proofs.Closing.{eq_same, closed_named, shift_whole, nameless_abs, close_binds, close_under, open_close}
 use Rattle.hol_subst.proofs.Composition.{subst_untouched}
 use Rattle.hol_subst.proofs.Opening.{open_close_subst}
 use Rattle.hol_subst.proofs.Typing.{mapped_part}
@@ -100,6 +100,14 @@ module _ (basis : Items) (v : List ℕ × TypeTree) (b x : Named) (a : TypeTree)
   pub beta_is : beta_of basis (comb (abs v b) (var v)) ≡ Some (own_contraction a v b)
   unfolding general
   beta_is = beta_gives basis general v v b a refl general_fits (eq_same v) (ap is_some general_typed)
+
+  -- at the variable itself, BETA gives it at once
+  pub own_gives : x ≡ var v → beta_of basis (comb (abs v b) x) ≡ Some (contraction a (nameless [] (comb (abs v b) x)))
+  unfolding general
+  own_gives e =
+      let stays : nameless [] b ≡ open_with (free v) 0 (nameless (v ∷ []) b) = sym (ap (open_with (free v) 0) (close_under [] v b) ∙ open_close v 0 (nameless [] b)) in
+      subst (λ (y : Named). beta_of basis (comb (abs v b) y) ≡ Some (contraction a (nameless [] (comb (abs v b) y)))) (sym e)
+      (beta_is ∙ ap (λ n. Some (sequent_of no_hyps (equation a (nameless [] (comb (abs v b) (var v))) n))) stays)
 
   pairs_fit : are_pairs_over basis ((x, var v) ∷ []) ≡ true
   pairs_fit = (λ i. is_type_at (argument i) v.1 && true) ∙ ap (λ k. k && true) (type_eq_itself v.1)

@@ -1,5 +1,5 @@
 //! The rules for callers that know that they apply: such a call is not refused.
-ghost use Rattle.std.specs.Prelude.{◌≡◌, true, IfOk, MatchOption, Some, None, Ok, [], ◌∷◌, codes};
+ghost use Rattle.std.specs.Prelude.{◌≡◌, true, IfOk, IsTrue, MatchOption, Some, None, Ok, [], ◌∷◌, codes};
 ghost use Rattle.hol_types.specs.Fun.{fun_type};
 ghost use Rattle.hol_terms.specs.Nameless.{nameless, fixed, app};
 ghost use Rattle.hol_terms.specs.Alpha.{alpha_eq};
@@ -240,7 +240,7 @@ pub fn inst_type(alloc: Global, ty: &Ty, name: &str, a: &Thm) -> Result<Thm, All
     unrefused(Thm::inst_type(alloc, &pairs, a))
 }
 
-/// BETA_CONV: `(\x. b) r = b` with `r` for `x`, for a redex of the type that is well typed over the basis.
+/// BETA_CONV: `(\x. b) r = b` with `r` for `x`, for a redex of the type that is well typed over the basis. At `x` itself it is BETA.
 #[inline(never)]
 pub fn beta_conv(alloc: Global, basis: &Basis, ty: &Ty, redex: &Term) -> Result<Thm, AllocError>
     requires typed { HasType basis.now (nameless [] redex.now) ty.now }
@@ -253,6 +253,21 @@ pub fn beta_conv(alloc: Global, basis: &Basis, ty: &Ty, redex: &Term) -> Result<
     let TermNode::Abs(v, b) = f.node() else {
         unreachable!()
     };
+    if is_occurrence(x, v) {
+        return Thm::beta_typed(alloc, basis, redex);
+    }
     let general = beta(alloc, basis, ty, f, v, b)?;
     inst(alloc, x, v, &general)
+}
+
+// Whether the term is the variable.
+fn is_occurrence(t: &Term, v: &Variable) -> bool
+    ensures { IsTrue result → t.now ≡ var v.now }
+{
+    match t.node() {
+        TermNode::Var(w) => w.same(v),
+        TermNode::Const(_, _) => false,
+        TermNode::Comb(_, _) => false,
+        TermNode::Abs(_, _) => false,
+    }
 }

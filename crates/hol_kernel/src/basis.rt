@@ -26,13 +26,14 @@ pub struct Basis {
     shared: Rc<BasisShared>,
 }
 
-// What the copies of a basis share: its items, and the `=` between truth values and between terms of another type that rules last asked
-// for, so that equations of one type share it.
+// What the copies of a basis share: its items, and the `=` between truth values and between terms of other types that rules last asked
+// for, so that equations of one type share it. Types of other sizes have other places, so that the equations of a function, of its
+// argument and of what it makes of it, which rules take in turn, don't put out one another's.
 #[derive(Drop)]
 struct BasisShared {
     items: Vec<Item>,
     equivalence: RefCell<Option<Equality>>,
-    equality: RefCell<Option<Equality>>,
+    equalities: [RefCell<Option<Equality>>; 4],
 }
 
 impl Model for Basis {
@@ -58,7 +59,12 @@ impl Basis {
         let shared = BasisShared {
             items,
             equivalence: RefCell::new(None),
-            equality: RefCell::new(None),
+            equalities: [
+                RefCell::new(None),
+                RefCell::new(None),
+                RefCell::new(None),
+                RefCell::new(None),
+            ],
         };
         Ok(Basis {
             shared: Rc::new(alloc, shared)?,
@@ -93,8 +99,8 @@ impl Basis {
         &self.shared.items
     }
 
-    /// `left = right`, for two terms of the type. It has the `=` of the equation before, where that is of the same type, and
-    /// those of truth values have the same `=`.
+    /// `left = right`, for two terms of the type. It has the `=` of the last equation whose type has its place, where that is of
+    /// the same type, and those of truth values have the same `=`.
     pub(crate) fn equation(
         &self,
         alloc: Global,
@@ -116,13 +122,13 @@ impl Basis {
         Ok(made)
     }
 
-    // Where the `=` between terms of the type is kept.
+    // Where the `=` between terms of the type is kept: most types have an odd size, since one of functions has the sizes of two and 1.
     fn kept_at(&self, ty: &Ty) -> &RefCell<Option<Equality>> {
         if ty.is_bool() {
-            &self.shared.equivalence
-        } else {
-            &self.shared.equality
+            return &self.shared.equivalence;
         }
+        let place = ty.size() / 2 % 4;
+        &self.shared.equalities[place as usize]
     }
 
     // `left = right` by the `=` that is kept, if it is between terms of the type.

@@ -32,6 +32,7 @@ AP_THM p:bool of f:bool->bool = f is f:bool->bool = f |- (f:bool->bool) p = f p
 AP_THM p:bool of q:bool = p is Refused(ApThm)
 ALPHA \x:bool. x, \y:bool. y is |- (\x:bool. x) = (\y. y)
 ALPHA p:bool, q:bool is Refused(Alpha)
+BETA_CONV (\x:bool. x) x is |- (\x:bool. x) x = x
 BETA_CONV (\x:bool. x) p is |- (\x:bool. x) p = p
 BETA_CONV p:bool is Refused(BetaConv)
 PROVE_HYP of q:bool = p | p:bool is p:bool, q:bool = p |- p:bool
