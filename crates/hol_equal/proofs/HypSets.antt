@@ -1,10 +1,7 @@
 -- Sets of hypotheses.
-use Rattle.std.specs.Prelude.{◌≡◌, true, false, not, ◌&&◌, ◌||◌, Bool, refl}
-use Rattle.std.specs.Ordering.{eq_by_cmp}
+use Rattle.std.specs.Prelude.{◌≡◌}
 use Rattle.std.specs.FinSet as set
-use Rattle.std.proofs.Common.{sym, ◌∙◌}
 use Rattle.hol_terms.specs.Nameless.{Nameless}
-use Rattle.hol_subst.specs.AlphaOrder.{nameless_cmp}
 use Rattle.hol_kernel.specs.Sequent.{Hyps, no_hyps}
 use Rattle.hol_kernel.proofs.HypothesisLists.{hyps_total, hyps_same}
 use Rattle.hol_kernel.proofs.SortedSets.{union_none_left, union_none_right, remove_none}
@@ -17,36 +14,3 @@ none_right hs = union_none_right hyps_total hyps_same hs
 
 pub none_without : (k : Nameless) → set.remove no_hyps k ≡ no_hyps
 none_without k = remove_none hyps_total hyps_same k
-
--- two sets with the same members are one
-same : (hs ks : Hyps) → ((q : Nameless) → set.contains hs q ≡ set.contains ks q) → hs ≡ ks
-same hs ks e = set.same_set hyps_total hyps_same hs ks e
-
--- (A - q) u (B - p) u A is A u (B - p)
-absorbed : (a b q p : Bool) → (((not q && a) || (not p && b)) || a) ≡ (a || (not p && b))
-absorbed true true true true = refl
-absorbed true true true false = refl
-absorbed true true false true = refl
-absorbed true true false false = refl
-absorbed true false true true = refl
-absorbed true false true false = refl
-absorbed true false false true = refl
-absorbed true false false false = refl
-absorbed false true true true = refl
-absorbed false true true false = refl
-absorbed false true false true = refl
-absorbed false true false false = refl
-absorbed false false true true = refl
-absorbed false false true false = refl
-absorbed false false false true = refl
-absorbed false false false false = refl
-
-pub proved_from : (hs ks : Hyps) (p q : Nameless) → set.union (set.union (set.remove hs q) (set.remove ks p)) hs ≡ set.union hs (set.remove ks p)
-proved_from hs ks p q =
-    same _ _
-    (λ n.
-    set.contains-union hyps_total (set.union (set.remove hs q) (set.remove ks p)) hs n
-    ∙ (λ i. (set.contains-union hyps_total (set.remove hs q) (set.remove ks p) n ∙ (λ j. set.contains-remove hyps_total hs q n j || set.contains-remove hyps_total ks p n j)) i || set.contains hs n)
-    ∙ absorbed (set.contains hs n) (set.contains ks n) (eq_by_cmp nameless_cmp n q) (eq_by_cmp nameless_cmp n p)
-    ∙ (λ i. set.contains hs n || sym (set.contains-remove hyps_total ks p n) i)
-    ∙ sym (set.contains-union hyps_total hs (set.remove ks p) n))

@@ -195,8 +195,7 @@ pub fn prove_hyp(alloc: Global, a: &Thm, b: &Thm) -> Result<Thm, AllocError>
     requires one_basis { a.now.basis ≡ b.now.basis }
     ensures { IfOk result (λ th. th ≡ theorem_on a.now.basis (prove_hyp_of a.now.sequent b.now.sequent)) }
 {
-    let same = Thm::deduct_antisym(alloc, a, b)?;
-    eq_mp(alloc, &same, a)
+    Thm::prove_hyp(alloc, a, b)
 }
 
 // `(\v. b) v = b`, for the abstraction `f` of `v` in `b`; the type is that of `b`.

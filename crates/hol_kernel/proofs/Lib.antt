@@ -26,3 +26,4 @@ pub mod Assumptions
 pub mod Subsets
 pub mod RuleLaws
 pub mod Makes
+pub mod Cuts

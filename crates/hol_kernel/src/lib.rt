@@ -7,6 +7,7 @@ mod axiom;
 mod basis;
 mod declare;
 mod define;
+mod derived;
 mod error;
 mod given;
 mod instances;
