@@ -1,16 +1,15 @@
 //! The rules for callers that know that they apply: such a call is not refused.
-ghost use Rattle.std.specs.Prelude.{◌≡◌, true, IfOk, IsTrue, MatchOption, Some, None, Ok, [], ◌∷◌, codes};
-ghost use Rattle.hol_types.specs.Fun.{fun_type};
-ghost use Rattle.hol_terms.specs.Nameless.{nameless, fixed, app};
+ghost use Rattle.std.specs.Prelude.{◌≡◌, true, IfOk, IsTrue, MatchOption, Some, None, Ok, [], ◌∷◌};
+ghost use Rattle.hol_terms.specs.Nameless.{nameless};
 ghost use Rattle.hol_terms.specs.Alpha.{alpha_eq};
 ghost use Rattle.hol_subst.specs.Substitution.{term_subst, types_inst};
-ghost use Rattle.hol_formulas.specs.Equation.{bool_type, equality_type, equation, dest_eq};
-ghost use Rattle.hol_terms.specs.Named.{var, constant, comb, abs, named_type};
+ghost use Rattle.hol_formulas.specs.Equation.{bool_type, equation, dest_eq};
+ghost use Rattle.hol_terms.specs.Named.{var, comb, abs, named_type};
 ghost use Rattle.hol_kernel.specs.Rules.{reflexive, trans_of, mk_comb_of, abs_of, eq_mp_of, beta_of, inst_of, sequent_image};
 ghost use Rattle.hol_kernel.specs.Typing.{HasType, is_type, is_typed};
 ghost use Rattle.hol_kernel.specs.Sequent.{sequent_of, no_hyps, only_hyp};
 ghost use Rattle.hol_kernel.specs.Theorem.{theorem_on};
-ghost use Rattle.hol_equal.specs.Applied.{lhs, rhs, rand, transitive, combined, concluded, symmetric, under, at_argument, abstracted, contraction, own_contraction};
+ghost use Rattle.hol_equal.specs.Applied.{transitive, combined, concluded, symmetric, under, at_argument, abstracted, contraction, own_contraction};
 ghost use Rattle.hol_equal.specs.Rules.{sym_of, prove_hyp_of, beta_conv_of};
 ghost use Rattle.hol_equal.specs.Unrefused.{IsUnrefused};
 
@@ -126,48 +125,12 @@ pub(crate) fn alpha(
     trans(alloc, &left, &right)
 }
 
-// `=` of a theorem that is an equation of terms of the type.
-fn sign_of<'a>(th: &'a Thm, ty: &Ty) -> &'a Term
-    requires equation { dest_eq th.now.sequent.concl ≡ None → ⊥ }
-    requires equal { th.now.sequent.concl ≡ equation ty.now (lhs th.now.sequent.concl) (rhs th.now.sequent.concl) }
-    ensures { result.now ≡ constant (codes "=") (equality_type ty.now) }
-{
-    let Some(sides) = dest_eq(th.concl()) else {
-        unreachable!()
-    };
-    sides.sign
-}
-
-// From `l = r`, `(=) l = (=) r`; the type is that of `l`.
-fn under_equality(alloc: Global, ty: &Ty, a: &Thm) -> Result<Thm, AllocError>
-    requires equal { a.now.sequent.concl ≡ equation ty.now (lhs a.now.sequent.concl) (rhs a.now.sequent.concl) }
-    ensures { IfOk result (λ th. th ≡ theorem_on a.now.basis (under (equality_type ty.now) (fixed (codes "=") (equality_type ty.now)) a.now.sequent)) }
-{
-    a.well_typed();
-    let sign = sign_of(a, ty);
-    ap_term(alloc, sign.type_of(), sign, a)
-}
-
-// From `(=) l = (=) r`, `r = l`; the type is that of `l`.
-fn turned(alloc: Global, ty: &Ty, left: &Term, a: &Thm) -> Result<Thm, AllocError>
-    requires typed { HasType a.now.basis (nameless [] left.now) ty.now }
-    requires equal { a.now.sequent.concl ≡ equation (fun_type ty.now bool_type) (app (fixed (codes "=") (equality_type ty.now)) (nameless [] left.now)) (app (fixed (codes "=") (equality_type ty.now)) (rand (rhs a.now.sequent.concl))) }
-    ensures { IfOk result (λ th. th ≡ theorem_on a.now.basis (sequent_of a.now.sequent.hyps (equation ty.now (rand (rhs a.now.sequent.concl)) (nameless [] left.now)))) }
-{
-    let same = refl(alloc, a.basis(), ty, left)?;
-    let both = mk_comb(alloc, a, &same)?;
-    eq_mp(alloc, &both, &same)
-}
-
 /// SYM: from `s = t`, `t = s`.
 pub fn sym(alloc: Global, a: &Thm) -> Result<Thm, AllocError>
     requires applies { sym_of a.now.sequent ≡ Some (symmetric a.now.sequent) }
     ensures { IfOk result (λ th. th ≡ theorem_on a.now.basis (symmetric a.now.sequent)) }
 {
-    a.well_typed();
-    let sides = known_sides(a);
-    let applied = under_equality(alloc, sides.ty, a)?;
-    turned(alloc, sides.ty, sides.left, &applied)
+    Thm::sym(alloc, a)
 }
 
 /// AP_TERM: from `s = t`, `f s = f t`, for a function of the type.
@@ -176,8 +139,7 @@ pub fn ap_term(alloc: Global, ty: &Ty, f: &Term, a: &Thm) -> Result<Thm, AllocEr
     requires applies { mk_comb_of (reflexive (nameless [] f.now) ty.now) a.now.sequent ≡ Some (combined (reflexive (nameless [] f.now) ty.now) a.now.sequent) }
     ensures { IfOk result (λ th. th ≡ theorem_on a.now.basis (under ty.now (nameless [] f.now) a.now.sequent)) }
 {
-    let same = refl(alloc, a.basis(), ty, f)?;
-    mk_comb(alloc, &same, a)
+    Thm::ap_term(alloc, ty, f, a)
 }
 
 /// AP_THM: from `s = t`, `s x = t x`, for an argument of the type.

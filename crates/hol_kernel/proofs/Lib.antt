@@ -27,3 +27,5 @@ pub mod Subsets
 pub mod RuleLaws
 pub mod Makes
 pub mod Cuts
+pub mod TypedParts
+pub mod EqualSteps

@@ -1,4 +1,4 @@
-use Rattle.std.proofs.Common.{◌≡◌, ap, subst, Some, [], ◌∷◌, rules, refl}
+use Rattle.std.proofs.Common.{◌≡◌, ap, subst, Some, [], ◌∷◌, rules}
 use Rattle.hol_terms.specs.Nameless.{nameless}
 use Rattle.hol_terms.specs.Named.{comb, abs, Named}
 use Rattle.hol_subst.specs.Substitution.{term_subst}

@@ -1,4 +1,4 @@
-use Rattle.std.proofs.Common.{◌≡◌, ap, sym, ◌∙◌, rules, true}
+use Rattle.std.proofs.Common.{◌≡◌, ap, sym, ◌∙◌, rules}
 use Rattle.hol_terms.specs.Named.{var}
 use Rattle.hol_terms.proofs.Same.{variable_eq_decides}
 use Rattle.hol_equal.proofs.applied.is_occurrence.Goals as goal
