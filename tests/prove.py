@@ -8,7 +8,7 @@ this loads the command `rt` and has it run its `ci` as it stands, but for two th
 
 - Which checks go on at one time, and by how many processes each. `rt ci` divides the processors among all tasks that are ready, most of which have
   nothing to do (the tests of a crate that has none), so a crate that all others wait for gets one process while processors idle. Here it gets all that
-  are idle, but one of them where others are ready, and two at least where the most work waits for it. With RT_JOBS=N, N checks of one process each go
+  are idle, but one of them where others are ready, and two at least, of four, where the most work waits for it. With RT_JOBS=N, N checks of one process each go
   on at a time, as by `rt ci`.
 - The sum of what a crate is made from, which `rt ci` makes anew along each path to a crate below it, 104,000 for the highest, and then doesn't use:
   it is made once.
@@ -32,10 +32,8 @@ import wrong_bodies
 
 # A check by more processes gains little.
 MOST = 4
-# What the first in line gets at least, though other checks have all processors: all else waits for it in the end.
+# What the first in line gets at least, though other checks have all processors: all else waits for it in the end. Not where there are two.
 LEAST = 2
-# One process more than there are processors: some of those of a check end before the others.
-MORE = 1
 # Of what `rt` expects of a check's memory, what it takes where the libraries' statements alone are loaded; and what each further process adds to it.
 TAKEN, ADDED = 0.5, 0.4
 # The memory that is expected of a check of wrong bodies, in bytes.
@@ -73,11 +71,13 @@ class Room:
     """The processors and the memory, and what the tasks that go on take of them."""
 
     def __init__(self, processors, memory, jobs):
-        self.lanes, self.memory, self.jobs, self.taken = jobs or processors + MORE, memory, jobs, {}
+        # (one process more than there are four processors: some of those of a check end before the others)
+        self.lanes, self.memory, self.jobs, self.taken = jobs or processors + processors // 4, memory, jobs, {}
+        self.least = 1 if jobs else max(1, min(LEAST, processors // 2))
 
     def enter(self, key, needs, others, is_first):
         """How many processes a task gets now beside those that go on, where so many others wait; 0 where it has to wait."""
-        least = LEAST if is_first and not self.jobs else 1
+        least = self.least if is_first else 1
         idle = self.lanes - sum(jobs for jobs, _ in self.taken.values())
         free = self.memory - sum(memory for _, memory in self.taken.values())
         if idle <= 0 and least == 1 or self.taken and TAKEN * needs > free:
