@@ -216,14 +216,6 @@ class Sources:
         """These functions and those that call them and are called by them."""
         return set(paths).union(*(cycle for cycle in self.cycles if cycle & set(paths)))
 
-    def calls(self, caller, callee):
-        """Whether a function may call another, by its name."""
-        called = re.compile(rf"\b{re.escape(callee.rpartition('::')[2])}\(")
-        for it in self.functions:
-            if it.path == caller:
-                return bool(called.search("\n".join(self.texts[it.file].split("\n")[it.opened + 1 : it.closed])))
-        return False
-
     def write(self, folder, texts, closed):
         """Writes a copy of the crate with these texts, in which the functions that aren't `closed` are left open."""
         for part in PARTS:
@@ -393,7 +385,8 @@ class Trial:
 
 
 def batches(sources, edits):
-    """The edits in groups that are tried together: of different functions, none of which calls another, and no text in the way of another's."""
+    """The edits in groups that are tried together: of different functions, and no text in the way of another's. That one calls another is in nobody's way,
+    since each is checked against what the others promise."""
     groups = []
     for edit in edits:
         for group in groups:
@@ -411,10 +404,10 @@ def can_join(sources, group, edit):
         texts = it.applied(texts)
         if texts is None:
             return False
-    own = sources.changed(edit.applied(sources.texts)) | {edit.function}
+    own = sources.with_cycles(sources.changed(edit.applied(sources.texts)) | {edit.function})
     for it in group:
         others = sources.changed(it.applied(sources.texts)) | {it.function}
-        if own & others or any(sources.calls(f, g) or sources.calls(g, f) for f in own for g in others):
+        if own & others:
             return False
     return True
 
