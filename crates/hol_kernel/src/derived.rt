@@ -65,8 +65,8 @@ impl Thm {
             unreachable!()
         };
         let concl = images(alloc, a.basis(), f, x, range)?;
-        let hyps = a.hypotheses().copy()?;
-        Thm::closed(a.basis(), hyps, concl)
+        let same = a.hypotheses().copy()?;
+        Thm::closed(a.basis(), same, concl)
     }
 }
 

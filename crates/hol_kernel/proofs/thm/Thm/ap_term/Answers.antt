@@ -34,8 +34,8 @@ closed-requires c =
     let p : TypeTree × TypeTree = (c.in-Some-dest_fun._domain.now, c.in-Some-dest_fun.range.now) in
     let found : dest_eq a.concl ≡ Some x = sym (ap dest_eq c.concl.ensures.concl) ∙ c.in-Some.ensures.sides in
     let fits : FitsSides f s a x p = ap_term_fits f s a c.requires.fits x found p c.in-Some-dest_fun.ensures in
-    kept B c.basis-2.result.now c.in_ok-hyps.hyps c.in_ok-concl.concl c.basis-2.ensures
-    (rw (c.in_ok-hyps.ensures, c.hypotheses.ensures, c.in_ok-concl.ensures.is)
+    kept B c.basis-2.result.now c.in_ok-same.same c.in_ok-concl.concl c.basis-2.ensures
+    (rw (c.in_ok-same.ensures, c.hypotheses.ensures, c.in_ok-concl.ensures.is)
     (ap_term_derived B f s a (sequent_of a.hyps (equation p.1 (app f x.left) (app f x.right))) c.requires.typed c.promise.ensures.derives fits.gives))
     c.in_ok-concl.ensures.typed
 
@@ -52,5 +52,5 @@ returns c =
     IfOk-weaker c.closed.result _ _
     (λ th made.
     ap (over B) fits.gives
-    ∙ ap Some (sym (made ∙ (λ i. theorem_over (c.basis-2.ensures i) ((c.in_ok-hyps.ensures ∙ c.hypotheses.ensures) i) (nameless [] (c.in_ok-concl.ensures.is i))))))
+    ∙ ap Some (sym (made ∙ (λ i. theorem_over (c.basis-2.ensures i) ((c.in_ok-same.ensures ∙ c.hypotheses.ensures) i) (nameless [] (c.in_ok-concl.ensures.is i))))))
     c.closed.ensures
