@@ -70,6 +70,28 @@ put pairs = term_subst (nameless_pairs pairs) 0
 image_none : (f : Nameless → Nameless) → hyps_image f no_hyps ≡ no_hyps
 image_none f = ap (λ (ks : List Nameless). set.from_list (map (λ h. strip (f h)) ks)) (items_empty hyps_total)
 
+removed_ways : (p : Bool) → (not p && (p || false)) ≡ false
+removed_ways true = refl
+removed_ways false = refl
+
+pub one_removed : (p : Nameless) → set.remove (only_hyp p) (strip p) ≡ no_hyps
+one_removed p =
+    same _ _
+    (λ q.
+    set.contains-remove hyps_total (only_hyp p) (strip p) q
+    ∙ ap (λ b. not (eq_by_cmp nameless_cmp q (strip p)) && b)
+    (set.contains-insert hyps_total no_hyps (strip p) q ∙ ap (λ b. eq_by_cmp nameless_cmp q (strip p) || b) (set.contains-empty nameless_cmp q))
+    ∙ removed_ways (eq_by_cmp nameless_cmp q (strip p)) ∙ sym (set.contains-empty nameless_cmp q))
+
+-- PROVE_HYP with what an instance assumes
+pub assumption_derived : (items : Items) (pairs : List (Named × Named)) (a b : Sequent) → are_pairs_over items pairs ≡ true → hyps_image (term_subst (nameless_pairs pairs) 0) a.hyps ≡ only_hyp b.concl → Derived items a → Derived items b → Derives items b.hyps (term_subst (nameless_pairs pairs) 0 a.concl)
+unfolding put
+assumption_derived items pairs a b over is d e =
+    let made : Derives items (hyps_image (put pairs) a.hyps) (put pairs a.concl) = by_inst a.hyps a.concl (nameless_pairs pairs) (pairs_typed_over items pairs over) d in
+    let own : Derived items (sequent_of (only_hyp b.concl) (put pairs a.concl)) = subst (λ (hs : Hyps). Derives items hs (put pairs a.concl)) is made in
+    let whole : set.union b.hyps (set.remove (only_hyp b.concl) (strip b.concl)) ≡ b.hyps = ap (λ (hs : Hyps). set.union b.hyps hs) (one_removed b.concl) ∙ union_none_right hyps_total hyps_same b.hyps in
+    subst (λ (hs : Hyps). Derives items hs (put pairs a.concl)) whole (cut_derived items b (sequent_of (only_hyp b.concl) (put pairs a.concl)) e own)
+
 -- EQ_MP of an instance that assumes nothing
 pub equivalence_derived : (items : Items) (pairs : List (Named × Named)) (a b : Sequent) (from : LeadsFrom pairs a.concl b.concl) → are_pairs_over items pairs ≡ true → a.hyps ≡ no_hyps → Derived items a → Derived items b → Derives items b.hyps (term_subst (nameless_pairs pairs) 0 from.right)
 unfolding put

@@ -12,7 +12,7 @@ ghost use Rattle.hol_subst.specs.Substitution.{term_subst};
 ghost use Rattle.hol_formulas.specs.Equation.{bool_type, dest_eq, equation, mk_eq};
 ghost use Rattle.hol_kernel.specs.InstanceFrom.{LeadsFrom};
 ghost use Rattle.hol_kernel.specs.Rules.{are_pairs_over, mk_comb_of, reflexive};
-ghost use Rattle.hol_kernel.specs.Sequent.{no_hyps, sequent_of};
+ghost use Rattle.hol_kernel.specs.Sequent.{hyps_image, no_hyps, only_hyp, sequent_of};
 ghost use Rattle.hol_kernel.specs.Theorem.{over, theorem_over};
 ghost use Rattle.hol_kernel.specs.Typing.{HasType};
 
@@ -71,6 +71,26 @@ impl Thm {
         let concl = images(alloc, a.basis(), f, x, range)?;
         let same = a.hypotheses().copy()?;
         Thm::closed(a.basis(), same, concl)
+    }
+
+    /// INST, and PROVE_HYP with what the instance assumes: from `{h} |- c` and `B |- m`, where `h` with the terms for the variables is `m` up
+    /// to bound names, `B |- c` with them. The pairs are as [`Thm::inst_typed`] has them.
+    pub fn follow_assumption(
+        alloc: Global,
+        pairs: &[(Term, Term)],
+        a: &Thm,
+        b: &Thm,
+    ) -> Result<Thm, AllocError>
+        requires typed { are_pairs_over a.now.basis pairs.now ≡ true }
+        requires one_basis { a.now.basis ≡ b.now.basis }
+        requires assumes { hyps_image (term_subst (nameless_pairs pairs.now) 0) a.now.sequent.hyps ≡ only_hyp b.now.sequent.concl }
+        ensures { IfOk result (λ th. th ≡ theorem_over a.now.basis b.now.sequent.hyps (term_subst (nameless_pairs pairs.now) 0 a.now.sequent.concl)) }
+    {
+        a.promise();
+        b.promise();
+        let concl = vsubst_good(alloc, pairs, a.concl())?;
+        let hyps = b.hypotheses().copy()?;
+        Thm::closed(a.basis(), hyps, concl)
     }
 
     /// INST, and EQ_MP of the instance: from `|- l <=> r` and `B |- m`, where `l` with the terms for the variables is `m` up to bound names,
