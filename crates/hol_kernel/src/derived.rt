@@ -113,8 +113,8 @@ impl Thm {
             unreachable!()
         };
         let concl = vsubst_good(alloc, pairs, x.right)?;
-        let hyps = b.hypotheses().copy()?;
-        Thm::closed(a.basis(), hyps, concl)
+        let same = b.hypotheses().copy()?;
+        Thm::closed(a.basis(), same, concl)
     }
 }
 

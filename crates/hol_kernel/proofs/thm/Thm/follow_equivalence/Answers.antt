@@ -27,7 +27,7 @@ closed-requires c =
     let right : from.right ≡ r = right_is a.concl bool_type s from.left from.right l r from.is is in
     let formula : s ≡ bool_type = type_is a.concl s bool_type l r from.left from.right is from.is in
     let made : nameless [] c.in_ok-concl.concl ≡ term_subst (nameless_pairs pairs) 0 from.right = c.in_ok-concl.ensures.ok ∙ ap (term_subst (nameless_pairs pairs) 0) (sym right) in
-    kept B c.basis.result.now c.in_ok-hyps.hyps c.in_ok-concl.concl c.basis.ensures
-    (rw (c.in_ok-hyps.ensures, c.hypotheses.ensures, made)
+    kept B c.basis.result.now c.in_ok-same.same c.in_ok-concl.concl c.basis.ensures
+    (rw (c.in_ok-same.ensures, c.hypotheses.ensures, made)
     (equivalence_derived B pairs a b from c.requires.typed c.requires.general c.promise.ensures.derives (second_over c.args.a.now c.args.b.now c.requires.one_basis c.promise-2.ensures.derives)))
     (instance_typed B pairs c.in-Some.x.right.now c.in_ok-concl.concl bool_type c.requires.typed c.in_ok-concl.ensures.ok (c.in-Some.ensures.right ∙ ap Some formula))
