@@ -28,6 +28,7 @@ use Rattle.hol_derived.specs.Unfolded.{either, either_for_all, letter, side_name
 use Rattle.hol_derived.specs.declared.disjunction.Side.{Side}
 use Rattle.hol_derived.specs.declared.disjunction.Side.TheVariants.{Left, Right}
 use Rattle.hol_derived.proofs.Bodies.{open_whole}
+pub use Rattle.hol_kernel.proofs.Cuts.{one_removed}
 use Rattle.hol_derived.proofs.HypLaws.{is, has, same, in_union, in_rest, in_one, in_none}
 
 pub not_none : {A : Type 0} (x : A) → Some x ≡ None → ⊥
@@ -132,16 +133,6 @@ side_left Right =
     ∙ right_ways (is q (strip (implies_r (codes "p")))) (is q (strip (implies_r (codes "q")))) (is q (letter (codes "q"))) (apart (letter (codes "q")) (strip (implies_r (codes "p"))) q refl)
     (apart (letter (codes "q")) (strip (implies_r (codes "q"))) q refl)
     ∙ sym (in_one (letter (codes "q")) q))
-
-removed_ways : (p : Bool) → (not p && (p || false)) ≡ false
-removed_ways true = refl
-removed_ways false = refl
-
-pub one_removed : (p : Nameless) → set.remove (only_hyp p) (strip p) ≡ no_hyps
-one_removed p =
-    same _ _
-    (λ q.
-    in_rest (only_hyp p) (strip p) q ∙ ap (λ b. not (is q (strip p)) && b) (in_one p q) ∙ removed_ways (is q (strip p)) ∙ sym (in_none q))
 
 -- ---- variables that are free in hypotheses
 

@@ -18,7 +18,7 @@ ghost use Rattle.hol_derived.specs.Lemmas.{hypothesis, assumed, conclusion, lemm
 use crate::lemma::{LEMMAS, Lemma, derived};
 use crate::letters::letter;
 use crate::truth::truth;
-use hol_equal::applied::{eq_mp, inst_type, prove_hyp};
+use hol_equal::applied::inst_type;
 use hol_formulas::{bool_type, occurrence, variable};
 use hol_kernel::{Basis, Thm};
 use hol_terms::Term;
@@ -219,11 +219,12 @@ impl Lemmas {
         ensures is { IfOk result (λ th. th ≡ theorem_on self.old (sequent_of premise.now.sequent.hyps (conclusion which (nameless [] p.now) (nameless [] q.now)))) }
         ensures kept { self.new ≡ self.old }
     {
-        let own = self.instance(alloc, which, p, q)?;
+        let own = self.get(alloc, which)?;
+        let pairs = self.beside_letters(alloc, p, q)?;
         if which.is_equation() {
-            return eq_mp(alloc, &own, premise);
+            return Thm::follow_equivalence(alloc, &pairs, &own, premise);
         }
-        prove_hyp(alloc, premise, &own)
+        Thm::follow_assumption(alloc, &pairs, &own, premise)
     }
 }
 

@@ -61,7 +61,7 @@ pairs_good basis [] e bad = bad
 pairs_good basis (p ∷ pairs) e (inl bad) = bad (good_pair basis p.0 p.1 (and_parts (is_pair_at basis (nameless [] p.0) p.1) (are_pairs_over basis pairs) e).0)
 pairs_good basis (p ∷ pairs) e (inr bad) = pairs_good basis pairs (and_parts (is_pair_at basis (nameless [] p.0) p.1) (are_pairs_over basis pairs) e).1 bad
 
-pairs_typed_over : (basis : Items) (pairs : List (Named × Named)) → are_pairs_over basis pairs ≡ true → are_typed_for basis (nameless_pairs pairs) ≡ true
+pub pairs_typed_over : (basis : Items) (pairs : List (Named × Named)) → are_pairs_over basis pairs ≡ true → are_typed_for basis (nameless_pairs pairs) ≡ true
 pairs_typed_over basis [] e = refl
 pairs_typed_over basis (p ∷ pairs) e =
     let h = and_parts (is_pair_at basis (nameless [] p.0) p.1) (are_pairs_over basis pairs) e in
@@ -76,13 +76,18 @@ pairs_typed_over basis (p ∷ pairs) e =
 abbrev put : List (Named × Named) → Nameless → Nameless
 put pairs = term_subst (nameless_pairs pairs) 0
 
+-- an instance keeps its type
+pub instance_typed : (basis : Items) (pairs : List (Named × Named)) (t made : Named) (a : TypeTree) → are_pairs_over basis pairs ≡ true → nameless [] made ≡ term_subst (nameless_pairs pairs) 0 (nameless [] t) → named_type t ≡ Some a → named_type made ≡ Some a
+instance_typed basis pairs t made a over r typed =
+    sym (type_outside made) ∙ ap (nameless_type []) r
+    ∙ subst_type (nameless_pairs pairs) [] 0 (nameless [] t) (pairs_typed (nameless_pairs pairs) (good_pairs_fit pairs (pairs_good basis pairs over)))
+    ∙ type_outside t ∙ typed
+
 pub terms_derived : (basis : Items) (pairs : List (Named × Named)) (s : Sequent) (t : Named) (own : Items) (hyps : Hyps) (concl : Named) → Derives basis s.hyps s.concl → are_pairs_over basis pairs ≡ true → nameless [] t ≡ s.concl → named_type t ≡ Some bool_type → own ≡ basis → hyps ≡ hyps_image (term_subst (nameless_pairs pairs) 0) s.hyps → nameless [] concl ≡ term_subst (nameless_pairs pairs) 0 (nameless [] t) → IsDerived own hyps concl
 terms_derived basis pairs s t own hyps concl d over is typed p q r =
     along_nameless basis own (hyps_image (put pairs) s.hyps) hyps (put pairs s.concl) concl p q (r ∙ ap (put pairs) is)
     (by_inst s.hyps s.concl (nameless_pairs pairs) (pairs_typed_over basis pairs over) d)
-    (sym (type_outside concl) ∙ ap (nameless_type []) r
-    ∙ subst_type (nameless_pairs pairs) [] 0 (nameless [] t) (pairs_typed (nameless_pairs pairs) (good_pairs_fit pairs (pairs_good basis pairs over)))
-    ∙ type_outside t ∙ typed)
+    (instance_typed basis pairs t concl bool_type over r typed)
 
 pub terms_given : (basis : Items) (pairs : List (Named × Named)) (s : Sequent) (made : Theorem) (hyps : Hyps) (t concl : Named) → are_pairs_over basis pairs ≡ true → nameless [] t ≡ s.concl → hyps ≡ hyps_image (term_subst (nameless_pairs pairs) 0) s.hyps → nameless [] concl ≡ term_subst (nameless_pairs pairs) 0 (nameless [] t) → made ≡ theorem_over basis hyps (nameless [] concl) → over basis (inst_of basis pairs s) ≡ Some made
 terms_given basis pairs s made hyps t concl fit is q r e =

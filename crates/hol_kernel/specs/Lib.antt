@@ -10,6 +10,7 @@ pub mod Derivation
 pub mod Legal
 pub mod Theorem
 pub mod Rules
+pub mod InstanceFrom
 pub mod Extends
 pub mod Clashing
 pub mod Gives
