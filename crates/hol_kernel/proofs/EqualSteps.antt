@@ -76,7 +76,7 @@ module _ (f : Nameless) (s : TypeTree) (a : Sequent) (fits : IsSome (mk_comb_of 
         go true e g =
             record {
               domain = (type_cmp_decides p.0 x.sides_type).0 e;
-              gives = g ∙ ap (λ (ks : Hyps). Some (sequent_of ks (equation p.1 (app f x.left) (app f x.right)))) (union_none_left hyps_total hyps_same a.hyps)
+              gives = g ∙ ap (λ (ks : Hyps). Some (sequent_of ks (equation p.1 (app f x.left) (app f x.right)))) (union_none_left hyps_total hyps_same a.hyps);
             }
         go false e g = let wrong : false ≡ true = sym (ap is_some g) ∙ fits in absurd (cc)
 
