@@ -10,7 +10,6 @@ pub mod Derivation
 pub mod Legal
 pub mod Theorem
 pub mod Rules
-pub mod InstanceFrom
 pub mod Extends
 pub mod Clashing
 pub mod Gives

@@ -101,7 +101,7 @@ impl Basis {
 
     /// `left = right`, for two terms of the type. It has the `=` of the last equation whose type has its place, where that is of
     /// the same type, and those of truth values have the same `=`.
-    pub(crate) fn equation(
+    pub fn equation(
         &self,
         alloc: Global,
         ty: &Ty,

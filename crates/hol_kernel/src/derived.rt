@@ -1,25 +1,21 @@
 //! Rules of equal.ml and bool.ml that are made at once: each gives exactly what the primitive rules give, one after the other, and has their
 //! derivation. The theorems between aren't made.
-ghost use Rattle.std.specs.Prelude.{◌≡◌, [], IfOk, IsSome, Some, true};
+ghost use Rattle.std.specs.Prelude.{◌≡◌, [], IfOk, IsSome, Some};
 ghost use Rattle.std.specs.FinSet as set;
 ghost use Rattle.std.specs.Option.{option_map};
 ghost use Rattle.hol_types.specs.Fun.{fun_type};
 ghost use Rattle.hol_terms.specs.Alpha.{strip};
 ghost use Rattle.hol_terms.specs.Named.{comb, named_type};
-ghost use Rattle.hol_terms.specs.Nameless.{Nameless, nameless};
-ghost use Rattle.hol_subst.specs.Pairs.{nameless_pairs};
-ghost use Rattle.hol_subst.specs.Substitution.{term_subst};
+ghost use Rattle.hol_terms.specs.Nameless.{nameless};
 ghost use Rattle.hol_formulas.specs.Equation.{bool_type, dest_eq, equation, mk_eq};
-ghost use Rattle.hol_kernel.specs.InstanceFrom.{LeadsFrom};
-ghost use Rattle.hol_kernel.specs.Rules.{are_pairs_over, mk_comb_of, reflexive};
-ghost use Rattle.hol_kernel.specs.Sequent.{hyps_image, no_hyps, only_hyp, sequent_of};
+ghost use Rattle.hol_kernel.specs.Rules.{mk_comb_of, reflexive};
+ghost use Rattle.hol_kernel.specs.Sequent.{sequent_of};
 ghost use Rattle.hol_kernel.specs.Theorem.{over, theorem_over};
 ghost use Rattle.hol_kernel.specs.Typing.{HasType};
 
 use crate::basis::Basis;
 use crate::thm::Thm;
 use hol_formulas::{Sides, dest_eq};
-use hol_subst::vsubst_good;
 use hol_terms::Term;
 use hol_types::Ty;
 use std::alloc::{AllocError, Global};
@@ -70,50 +66,6 @@ impl Thm {
         };
         let concl = images(alloc, a.basis(), f, x, range)?;
         let same = a.hypotheses().copy()?;
-        Thm::closed(a.basis(), same, concl)
-    }
-
-    /// INST, and PROVE_HYP with what the instance assumes: from `{h} |- c` and `B |- m`, where `h` with the terms for the variables is `m` up
-    /// to bound names, `B |- c` with them. The pairs are as [`Thm::inst_typed`] has them.
-    pub fn follow_assumption(
-        alloc: Global,
-        pairs: &[(Term, Term)],
-        a: &Thm,
-        b: &Thm,
-    ) -> Result<Thm, AllocError>
-        requires typed { are_pairs_over a.now.basis pairs.now ≡ true }
-        requires one_basis { a.now.basis ≡ b.now.basis }
-        requires assumes { hyps_image (term_subst (nameless_pairs pairs.now) 0) a.now.sequent.hyps ≡ only_hyp b.now.sequent.concl }
-        ensures { IfOk result (λ th. th ≡ theorem_over a.now.basis b.now.sequent.hyps (term_subst (nameless_pairs pairs.now) 0 a.now.sequent.concl)) }
-    {
-        a.promise();
-        b.promise();
-        let concl = vsubst_good(alloc, pairs, a.concl())?;
-        let hyps = b.hypotheses().copy()?;
-        Thm::closed(a.basis(), hyps, concl)
-    }
-
-    /// INST, and EQ_MP of the instance: from `|- l <=> r` and `B |- m`, where `l` with the terms for the variables is `m` up to bound names,
-    /// `B |- r` with them. The pairs are as [`Thm::inst_typed`] has them.
-    pub fn follow_equivalence(
-        alloc: Global,
-        pairs: &[(Term, Term)],
-        a: &Thm,
-        b: &Thm,
-    ) -> Result<Thm, AllocError>
-        requires typed { are_pairs_over a.now.basis pairs.now ≡ true }
-        requires one_basis { a.now.basis ≡ b.now.basis }
-        requires general { a.now.sequent.hyps ≡ no_hyps }
-        requires leads { LeadsFrom pairs.now a.now.sequent.concl b.now.sequent.concl }
-        ensures { IfOk result (λ th. (l r : Nameless) → a.now.sequent.concl ≡ equation bool_type l r → th ≡ theorem_over a.now.basis b.now.sequent.hyps (term_subst (nameless_pairs pairs.now) 0 r)) }
-    {
-        a.promise();
-        b.promise();
-        let Some(x) = dest_eq(a.concl()) else {
-            unreachable!()
-        };
-        let concl = vsubst_good(alloc, pairs, x.right)?;
-        let same = b.hypotheses().copy()?;
         Thm::closed(a.basis(), same, concl)
     }
 }

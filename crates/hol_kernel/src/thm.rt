@@ -37,8 +37,8 @@ impl Model for Thm {
 }
 
 impl Thm {
-    /// The theorem of a sequent that has a derivation over the basis. Each rule ends here.
-    pub(crate) fn closed(basis: &Basis, hyps: Hypotheses, concl: Term) -> Result<Thm, AllocError>
+    /// The theorem of a sequent that has a derivation over the basis, which who calls this has to prove. Each rule ends here.
+    pub fn closed(basis: &Basis, hyps: Hypotheses, concl: Term) -> Result<Thm, AllocError>
         requires { IsDerived basis.now hyps concl }
         ensures { IfOk result (λ th. th ≡ theorem_over basis.now hyps (nameless [] concl)) }
     {
@@ -78,7 +78,7 @@ impl Thm {
     }
 
     /// The hypotheses as one value.
-    pub(crate) fn hypotheses(&self) -> &Hypotheses
+    pub fn hypotheses(&self) -> &Hypotheses
         ensures { result.now ≡ self.now.sequent.hyps }
     {
         &self.hyps
