@@ -26,9 +26,9 @@ use Rattle.hol_kernel.proofs.HypothesisLists.{hyps_total, hyps_same}
 use Rattle.hol_equal.proofs.HypSets.{none_right}
 use Rattle.hol_derived.specs.Applied.{constantly_true}
 use Rattle.hol_derived.specs.Unfolded.{letter, predicate, of_witness, exists_in, implied_by_all, either}
-use Rattle.hol_derived.specs.Lemmas.{hypothesis, conclusion, lemma_at, general, put, put_three, put_predicate, put_at}
+use Rattle.hol_derived.specs.Lemmas.{hypothesis, conclusion, lemma_at, general, put, put_predicate, put_at}
 use Rattle.hol_derived.specs.declared.lemma.Lemma.{Lemma}
-use Rattle.hol_derived.specs.declared.lemma.Lemma.TheVariants.{EqtIntro, Turn, Both, Conj, Conjunct1, Conjunct2, Mp, Disch, Disj1, Disj2, Contr, NotIntro, EqfIntro, Gen, DisjCases, Spec, Exists, Choose}
+use Rattle.hol_derived.specs.declared.lemma.Lemma.TheVariants.{EqtIntro, Both, Conj, Conjunct1, Conjunct2, Mp, Disch, Disj1, Disj2, Contr, NotIntro, EqfIntro, Gen, DisjCases, Spec, Exists, Choose}
 use Rattle.hol_derived.proofs.Disjunctions.{one_removed}
 
 -- what a map makes of one hypothesis
@@ -58,7 +58,6 @@ module _ (p q : Nameless) (c : IsClosed 0 p) (d : IsClosed 0 q) where
   assumed_is : (which : Lemma) → strip (given (strip (hypothesis which (letter (codes "p")) (letter (codes "q"))))) ≡ strip (hypothesis which p q)
   unfolding given
   assumed_is EqtIntro = ap strip first
-  assumed_is Turn = λ i. strip (equivalence (first i) (second i))
   assumed_is Both = ap strip second
   assumed_is Conj = ap strip second
   assumed_is Conjunct1 = λ i. strip (conjunction (first i) (second i))
@@ -79,7 +78,6 @@ module _ (p q : Nameless) (c : IsClosed 0 p) (d : IsClosed 0 q) where
   concluded_is : (which : Lemma) → given (conclusion which (letter (codes "p")) (letter (codes "q"))) ≡ conclusion which p q
   unfolding given
   concluded_is EqtIntro = λ i. equivalence (first i) truth
-  concluded_is Turn = λ i. equivalence (second i) (first i)
   concluded_is Both = λ i. conjunction (first i) (second i)
   concluded_is Conj = λ i. equivalence (first i) (conjunction (first i) (second i))
   concluded_is Conjunct1 = first
@@ -105,7 +103,6 @@ module _ (p q : Nameless) (c : IsClosed 0 p) (d : IsClosed 0 q) where
   pub instance_is : (which : Lemma) → put p q (general which) ≡ lemma_at which p q
   unfolding given
   instance_is EqtIntro = λ i. sequent_of (image_none given i) (equivalence (first i) (equivalence (first i) truth))
-  instance_is Turn = λ i. sequent_of (image_none given i) (equivalence (equivalence (first i) (second i)) (equivalence (second i) (first i)))
   instance_is Both = λ i. sequent_of ((image_two given (letter (codes "p")) (letter (codes "q")) ∙ (λ j. set.insert (set.insert no_hyps (strip (second j))) (strip (first j)))) i) (conjunction (first i) (second i))
   instance_is Conj = assuming Conj
   instance_is Conjunct1 = assuming Conjunct1
@@ -123,12 +120,11 @@ module _ (p q : Nameless) (c : IsClosed 0 p) (d : IsClosed 0 q) where
   instance_is Exists = assuming Exists
   instance_is Choose = assuming Choose
 
--- the instance applies
-pub formulas_fit : (basis : Items) (p q : Named) (s : Sequent) → HasType basis (nameless [] p) bool_type → HasType basis (nameless [] q) bool_type → inst_of basis ((p, var (boolean (codes "p"))) ∷ (q, var (boolean (codes "q"))) ∷ []) s ≡ Some (put (nameless [] p) (nameless [] q) s)
-formulas_fit basis p q s typed also =
-    λ i. cond (is_type_at (typed i) bool_type && (is_type_at (also i) bool_type && true)) (Some (put (nameless [] p) (nameless [] q) s)) None
-
 -- ---- and r
+
+-- p, q and r for the variables of these names, in a sequent
+abbrev pub put_three : Nameless → Nameless → Nameless → Sequent → Sequent
+put_three p q r a = sequent_image (term_subst ((p, boolean (codes "p")) ∷ (q, boolean (codes "q")) ∷ (r, boolean (codes "r")) ∷ []) 0) a
 
 module _ (p q r : Nameless) (c : IsClosed 0 p) (d : IsClosed 0 q) (e : IsClosed 0 r) where
   three : Nameless → Nameless
@@ -140,12 +136,6 @@ module _ (p q r : Nameless) (c : IsClosed 0 p) (d : IsClosed 0 q) (e : IsClosed 
       λ i.
       sequent_of ((image_one three (disjunction (letter (codes "p")) (letter (codes "q"))) ∙ (λ j. set.insert no_hyps (strip (disjunction (shift_whole 0 0 p c j) (shift_whole 0 0 q d j))))) i)
       (either (shift_whole 0 0 p c i) (shift_whole 0 0 q d i) (shift_whole 0 0 r e i))
-
-pub three_fit :
-    (basis : Items) (p q r : Named) (s : Sequent) → HasType basis (nameless [] p) bool_type → HasType basis (nameless [] q) bool_type → HasType basis (nameless [] r) bool_type →
-    inst_of basis ((p, var (boolean (codes "p"))) ∷ (q, var (boolean (codes "q"))) ∷ (r, var (boolean (codes "r"))) ∷ []) s ≡ Some (put_three (nameless [] p) (nameless [] q) (nameless [] r) s)
-three_fit basis p q r s typed also third =
-    λ i. cond (is_type_at (typed i) bool_type && (is_type_at (also i) bool_type && (is_type_at (third i) bool_type && true))) (Some (put_three (nameless [] p) (nameless [] q) (nameless [] r) s)) None
 
 -- ---- a predicate for P
 

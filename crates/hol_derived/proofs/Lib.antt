@@ -7,7 +7,8 @@ pub mod Connected
 pub mod Chains
 pub mod RuleAnswers
 pub mod Instances
-pub mod Following
 pub mod LemmaHypotheses
 pub mod GeneralTheorems
 pub mod Applying
+pub mod Derivations
+pub mod QuantifierDerivations

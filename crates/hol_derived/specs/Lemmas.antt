@@ -5,26 +5,26 @@ use Rattle.std.specs.List.{AllByRecursion}
 use Rattle.std.specs.FinSet as set
 use Rattle.hol_types.specs.Tree.{TypeTree}
 use Rattle.hol_types.specs.Fun.{fun_type}
-use Rattle.hol_terms.specs.Named.{Named, var}
+use Rattle.hol_terms.specs.Named.{Named, constant}
 use Rattle.hol_terms.specs.Nameless.{Nameless, fixed, app}
 use Rattle.hol_terms.specs.Alpha.{strip}
 use Rattle.hol_formulas.specs.Equation.{bool_type, equation}
-use Rattle.hol_formulas.specs.Formula.{quantifier_type, truth, falsity, negation, conjunction, disjunction, implication, equivalence, universal}
+use Rattle.hol_formulas.specs.Formula.{connective_type, negation_type, quantifier_type, truth, falsity, negation, conjunction, disjunction, implication, equivalence, universal}
 use Rattle.hol_formulas.specs.Constants.{var_a}
+use Rattle.hol_formulas.specs.Making.{mk_falsity}
 use Rattle.hol_formulas.specs.Prelude.{boolean}
 use Rattle.hol_subst.specs.Substitution.{term_subst, types_inst}
 use Rattle.hol_kernel.specs.Items.{Items}
 use Rattle.hol_kernel.specs.Rules.{sequent_image}
-use Rattle.hol_kernel.specs.Theorem.{Theorem, theorem_on}
+use Rattle.hol_kernel.specs.Theorem.{Theorem, IsTheorem, theorem_on}
 use Rattle.hol_kernel.specs.Sequent.{Hyps, no_hyps, only_hyp, Sequent, sequent_of}
 use Rattle.hol_derived.specs.Applied.{constantly_true}
 use Rattle.hol_derived.specs.Unfolded.{letter, predicate, of_witness, exists_in, implied_by_all, either}
 use Rattle.hol_derived.specs.declared.lemma.Lemma.{Lemma}
-use Rattle.hol_derived.specs.declared.lemma.Lemma.TheVariants.{EqtIntro, Turn, Both, Conj, Conjunct1, Conjunct2, Mp, Disch, Disj1, Disj2, Contr, NotIntro, EqfIntro, Gen, DisjCases, Spec, Exists, Choose}
+use Rattle.hol_derived.specs.declared.lemma.Lemma.TheVariants.{EqtIntro, Both, Conj, Conjunct1, Conjunct2, Mp, Disch, Disj1, Disj2, Contr, NotIntro, EqfIntro, Gen, DisjCases, Spec, Exists, Choose}
 
 abbrev pub hypothesis : Lemma → Nameless → Nameless → Nameless
 hypothesis EqtIntro p q = p
-hypothesis Turn p q = equivalence p q
 hypothesis Both p q = q
 hypothesis Conj p q = q
 hypothesis Conjunct1 p q = conjunction p q
@@ -44,7 +44,6 @@ hypothesis Choose p q = exists_in var_a predicate
 
 abbrev pub conclusion : Lemma → Nameless → Nameless → Nameless
 conclusion EqtIntro p q = equivalence p truth
-conclusion Turn p q = equivalence q p
 conclusion Both p q = conjunction p q
 conclusion Conj p q = equivalence p (conjunction p q)
 conclusion Conjunct1 p q = p
@@ -65,7 +64,6 @@ conclusion Choose p q = universal (implied_by_all var_a predicate)
 -- where the two are equivalent, the theorem assumes nothing and says that
 abbrev pub is_equation : Lemma → Bool
 is_equation EqtIntro = true
-is_equation Turn = true
 is_equation Both = false
 is_equation Conj = false
 is_equation Conjunct1 = false
@@ -86,7 +84,6 @@ is_equation Choose = false
 -- else it assumes the one, and p beside it where it is of both
 abbrev pub assumed : Lemma → Nameless → Nameless → Hyps
 assumed EqtIntro p q = only_hyp p
-assumed Turn p q = only_hyp (hypothesis Turn p q)
 assumed Both p q = set.insert (only_hyp q) (strip p)
 assumed Conj p q = only_hyp (hypothesis Conj p q)
 assumed Conjunct1 p q = only_hyp (hypothesis Conjunct1 p q)
@@ -113,22 +110,43 @@ lemma_at which p q =
 abbrev pub general : Lemma → Sequent
 general which = lemma_at which (letter (codes "p")) (letter (codes "q"))
 
+-- the general theorem has a derivation over the basis
+abbrev pub IsKnown : Items → Lemma → Type 0
+IsKnown basis which = IsTheorem (theorem_on basis (general which))
+
+-- what DISCH, GEN and DISJ_CASES go by
+pub record DischKnown (basis : Items) : Type 0 where
+  pub both : IsKnown basis Both
+  pub first : IsKnown basis Conjunct1
+  pub implied : IsKnown basis Disch
+
+pub record GenKnown (basis : Items) : Type 0 where
+  pub proved : IsKnown basis EqtIntro
+  pub every : IsKnown basis Gen
+
+pub record CasesKnown (basis : Items) : Type 0 where
+  pub disch : DischKnown basis
+  pub mp : IsKnown basis Mp
+  pub cases : IsKnown basis DisjCases
+
 -- the theorems that were made, each with its name, are those of a basis
 abbrev pub AreGeneral : Items → List (Lemma × Theorem) → Type 0
 AreGeneral basis made = AllByRecursion (λ e. e.1 ≡ theorem_on basis (general e.0)) made
 
--- what is kept over a basis: these, truth, and the variables p and q of type bool
-abbrev pub AreKept : Items → List (Lemma × Theorem) → Theorem → Named → Named → Type 0
-AreKept basis made holds p q =
-    AreGeneral basis made × (holds ≡ theorem_on basis (sequent_of no_hyps truth)) × (p ≡ var (boolean (codes "p"))) × (q ≡ var (boolean (codes "q")))
+-- the constants that rules make formulas with
+abbrev pub AreSigns : Named → Named → Named → Named → Named → Type 0
+AreSigns conjunct disjunct implies denies false_sign =
+    (conjunct ≡ constant (codes "/\\") connective_type) × (disjunct ≡ constant (codes "\\/") connective_type) × (implies ≡ constant (codes "==>") connective_type)
+    × (denies ≡ constant (codes "~") negation_type) × (false_sign ≡ mk_falsity)
+
+-- what is kept over a basis: these, truth, and the constants
+abbrev pub AreKept : Items → List (Lemma × Theorem) → Theorem → Named → Named → Named → Named → Named → Type 0
+AreKept basis made holds conjunct disjunct implies denies false_sign =
+    AreGeneral basis made × (holds ≡ theorem_on basis (sequent_of no_hyps truth)) × AreSigns conjunct disjunct implies denies false_sign
 
 -- p and q for the variables of these names, in a sequent
 abbrev pub put : Nameless → Nameless → Sequent → Sequent
 put p q a = sequent_image (term_subst ((p, boolean (codes "p")) ∷ (q, boolean (codes "q")) ∷ []) 0) a
-
--- and r for the variable of its name
-abbrev pub put_three : Nameless → Nameless → Nameless → Sequent → Sequent
-put_three p q r a = sequent_image (term_subst ((p, boolean (codes "p")) ∷ (q, boolean (codes "q")) ∷ (r, boolean (codes "r")) ∷ []) 0) a
 
 -- a predicate f on the type a for P:A->bool, in a sequent
 abbrev pub put_predicate : TypeTree → Nameless → Sequent → Sequent

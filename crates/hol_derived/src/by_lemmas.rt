@@ -18,10 +18,10 @@ ghost use Rattle.hol_derived.specs.Applied.{generalized, false_of, first_conjunc
 ghost use Rattle.hol_derived.specs.Rules.{conj_of, conjunct1_of, conjunct2_of, mp_of, disch_of, undisch_of, not_intro_of, disj1_of, disj2_of, contr_of, gen_of, eqt_intro_of};
 
 use crate::lemma::Lemma;
-use crate::lemmas::{Lemmas, with_predicate};
-use hol_equal::applied::{abs, eq_mp, prove_hyp, sides_of};
-use hol_formulas::{dest_conj, dest_imp, dest_neg};
+use crate::lemmas::Lemmas;
+use hol_formulas::{dest_conj, dest_imp, dest_neg, mk_forall};
 use hol_kernel::Thm;
+use hol_subst::Hypotheses;
 use hol_terms::{Term, TermNode, Variable};
 use std::alloc::{AllocError, Global};
 
@@ -33,10 +33,14 @@ impl Lemmas {
         ensures gives { IfOk result (λ th. th ≡ theorem_on a.now.basis (conj_of a.now.sequent b.now.sequent)) }
         ensures kept { self.new ≡ self.old }
     {
+        a.promise();
+        b.promise();
         a.well_typed();
         b.well_typed();
-        let equal = self.follow(alloc, Lemma::Conj, a.concl(), b.concl(), b)?;
-        eq_mp(alloc, &equal, a)
+        self.establish(alloc, Lemma::Conj)?;
+        let concl = self.mk_conj(alloc, a.concl(), b.concl())?;
+        let hyps = a.hypotheses().union(alloc, b.hypotheses())?;
+        Thm::closed(a.basis(), hyps, concl)
     }
 
     /// CONJUNCT1: from `p /\ q`, `p`.
@@ -46,11 +50,15 @@ impl Lemmas {
         ensures gives { IfOk result (λ th. over a.now.basis (conjunct1_of a.now.sequent) ≡ Some th) }
         ensures kept { self.new ≡ self.old }
     {
+        a.promise();
         a.well_typed();
-        let Some((p, q)) = dest_conj(a.concl()) else {
+        let Some((p, _q)) = dest_conj(a.concl()) else {
             unreachable!()
         };
-        self.follow(alloc, Lemma::Conjunct1, p, q, a)
+        self.establish(alloc, Lemma::Conjunct1)?;
+        let concl = p.copy()?;
+        let hyps = a.hypotheses().copy()?;
+        Thm::closed(a.basis(), hyps, concl)
     }
 
     /// CONJUNCT2: from `p /\ q`, `q`.
@@ -60,11 +68,15 @@ impl Lemmas {
         ensures gives { IfOk result (λ th. over a.now.basis (conjunct2_of a.now.sequent) ≡ Some th) }
         ensures kept { self.new ≡ self.old }
     {
+        a.promise();
         a.well_typed();
-        let Some((p, q)) = dest_conj(a.concl()) else {
+        let Some((_p, q)) = dest_conj(a.concl()) else {
             unreachable!()
         };
-        self.follow(alloc, Lemma::Conjunct2, p, q, a)
+        self.establish(alloc, Lemma::Conjunct2)?;
+        let concl = q.copy()?;
+        let hyps = a.hypotheses().copy()?;
+        Thm::closed(a.basis(), hyps, concl)
     }
 
     /// CONJUNCT1, for a theorem that is known to be a conjunction.
@@ -74,11 +86,15 @@ impl Lemmas {
         ensures gives { IfOk result (λ th. th ≡ theorem_on a.now.basis (first_conjunct a.now.sequent)) }
         ensures kept { self.new ≡ self.old }
     {
+        a.promise();
         a.well_typed();
-        let Some((left, right)) = dest_conj(a.concl()) else {
+        let Some((p, _q)) = dest_conj(a.concl()) else {
             unreachable!()
         };
-        self.follow(alloc, Lemma::Conjunct1, left, right, a)
+        self.establish(alloc, Lemma::Conjunct1)?;
+        let concl = p.copy()?;
+        let hyps = a.hypotheses().copy()?;
+        Thm::closed(a.basis(), hyps, concl)
     }
 
     /// CONJUNCT2, for a theorem that is known to be a conjunction.
@@ -88,11 +104,15 @@ impl Lemmas {
         ensures gives { IfOk result (λ th. th ≡ theorem_on a.now.basis (second_conjunct a.now.sequent)) }
         ensures kept { self.new ≡ self.old }
     {
+        a.promise();
         a.well_typed();
-        let Some((left, right)) = dest_conj(a.concl()) else {
+        let Some((_p, q)) = dest_conj(a.concl()) else {
             unreachable!()
         };
-        self.follow(alloc, Lemma::Conjunct2, left, right, a)
+        self.establish(alloc, Lemma::Conjunct2)?;
+        let concl = q.copy()?;
+        let hyps = a.hypotheses().copy()?;
+        Thm::closed(a.basis(), hyps, concl)
     }
 
     /// MP: from `p ==> q` and `p'` that is `p` up to bound names, `q`.
@@ -103,12 +123,16 @@ impl Lemmas {
         ensures gives { IfOk result (λ th. over a.now.basis (mp_of a.now.sequent b.now.sequent) ≡ Some th) }
         ensures kept { self.new ≡ self.old }
     {
+        a.promise();
+        b.promise();
         a.well_typed();
-        let Some((p, q)) = dest_imp(a.concl()) else {
+        let Some((_p, q)) = dest_imp(a.concl()) else {
             unreachable!()
         };
-        let equal = self.follow(alloc, Lemma::Mp, p, q, b)?;
-        eq_mp(alloc, &equal, a)
+        self.establish(alloc, Lemma::Mp)?;
+        let concl = q.copy()?;
+        let hyps = a.hypotheses().union(alloc, b.hypotheses())?;
+        Thm::closed(a.basis(), hyps, concl)
     }
 
     /// UNDISCH: from `p ==> q`, `q` under the hypothesis `p`.
@@ -118,37 +142,16 @@ impl Lemmas {
         ensures gives { IfOk result (λ th. over a.now.basis (undisch_of a.now.sequent) ≡ Some th) }
         ensures kept { self.new ≡ self.old }
     {
+        a.promise();
         a.well_typed();
         let Some((p, q)) = dest_imp(a.concl()) else {
             unreachable!()
         };
-        let equal = self.instance(alloc, Lemma::Mp, p, q)?;
-        eq_mp(alloc, &equal, a)
-    }
-
-    // From `q`, `p /\ q`, under the hypothesis `p` where that is another formula.
-    fn with_assumed(&mut self, alloc: Global, p: &Term, a: &Thm) -> Result<Thm, AllocError>
-        requires one_basis { self.old ≡ a.now.basis }
-        requires typed { HasType a.now.basis (nameless [] p.now) bool_type }
-        ensures gives { IfOk result (λ th. th ≡ theorem_on a.now.basis (prove_hyp_of a.now.sequent (lemma_at Lemma.Both (nameless [] p.now) a.now.sequent.concl))) }
-        ensures kept { self.new ≡ self.old }
-    {
-        a.well_typed();
-        let both = self.instance(alloc, Lemma::Both, p, a.concl())?;
-        prove_hyp(alloc, a, &both)
-    }
-
-    // From `q`, `p /\ q <=> p` without the hypothesis `p`.
-    fn with_first(&mut self, alloc: Global, p: &Term, a: &Thm) -> Result<Thm, AllocError>
-        requires one_basis { self.old ≡ a.now.basis }
-        requires typed { HasType a.now.basis (nameless [] p.now) bool_type }
-        ensures gives { IfOk result (λ th. th ≡ theorem_on a.now.basis (sequent_of (set.remove a.now.sequent.hyps (strip (nameless [] p.now))) (equivalence (conjunction (nameless [] p.now) a.now.sequent.concl) (nameless [] p.now)))) }
-        ensures kept { self.new ≡ self.old }
-    {
-        a.well_typed();
-        let both = self.with_assumed(alloc, p, a)?;
-        let first = self.instance(alloc, Lemma::Conjunct1, p, a.concl())?;
-        Thm::deduct_antisym(alloc, &both, &first)
+        self.establish(alloc, Lemma::Mp)?;
+        let concl = q.copy()?;
+        let assumed = Hypotheses::one(alloc, p)?;
+        let hyps = a.hypotheses().union(alloc, &assumed)?;
+        Thm::closed(a.basis(), hyps, concl)
     }
 
     /// DISCH: from `q`, `p ==> q` without the hypothesis `p`.
@@ -158,9 +161,13 @@ impl Lemmas {
         ensures gives { IfOk result (λ th. over a.now.basis (disch_of a.now.basis (nameless [] p.now) a.now.sequent) ≡ Some th) }
         ensures kept { self.new ≡ self.old }
     {
+        a.promise();
         a.well_typed();
-        let equal = self.with_first(alloc, p, a)?;
-        self.follow(alloc, Lemma::Disch, p, a.concl(), &equal)
+        let _ty = p.type_of();
+        self.establish_disch(alloc)?;
+        let concl = self.mk_imp(alloc, p, a.concl())?;
+        let hyps = a.hypotheses().without(alloc, p)?;
+        Thm::closed(a.basis(), hyps, concl)
     }
 
     /// NOT_INTRO: from `p ==> F`, `~p`.
@@ -170,11 +177,15 @@ impl Lemmas {
         ensures gives { IfOk result (λ th. over a.now.basis (not_intro_of a.now.sequent) ≡ Some th) }
         ensures kept { self.new ≡ self.old }
     {
+        a.promise();
         a.well_typed();
-        let Some((p, _)) = dest_imp(a.concl()) else {
+        let Some((p, _falsity)) = dest_imp(a.concl()) else {
             unreachable!()
         };
-        self.follow(alloc, Lemma::NotIntro, p, p, a)
+        self.establish(alloc, Lemma::NotIntro)?;
+        let concl = self.mk_neg(alloc, p)?;
+        let hyps = a.hypotheses().copy()?;
+        Thm::closed(a.basis(), hyps, concl)
     }
 
     /// EQF_INTRO: from `~p`, `p <=> F`.
@@ -184,11 +195,15 @@ impl Lemmas {
         ensures gives { IfOk result (λ th. th ≡ theorem_on a.now.basis (false_of a.now.sequent)) }
         ensures kept { self.new ≡ self.old }
     {
+        a.promise();
         a.well_typed();
         let Some(p) = dest_neg(a.concl()) else {
             unreachable!()
         };
-        self.follow(alloc, Lemma::EqfIntro, p, p, a)
+        self.establish(alloc, Lemma::EqfIntro)?;
+        let concl = self.mk_refuted(alloc, p)?;
+        let hyps = a.hypotheses().copy()?;
+        Thm::closed(a.basis(), hyps, concl)
     }
 
     /// DISJ1: from `p`, `p \/ q`, for a formula over the basis.
@@ -198,8 +213,13 @@ impl Lemmas {
         ensures gives { IfOk result (λ th. over a.now.basis (disj1_of a.now.basis a.now.sequent (nameless [] q.now)) ≡ Some th) }
         ensures kept { self.new ≡ self.old }
     {
+        a.promise();
         a.well_typed();
-        self.follow(alloc, Lemma::Disj1, a.concl(), q, a)
+        let _ty = q.type_of();
+        self.establish(alloc, Lemma::Disj1)?;
+        let concl = self.mk_disj(alloc, a.concl(), q)?;
+        let hyps = a.hypotheses().copy()?;
+        Thm::closed(a.basis(), hyps, concl)
     }
 
     /// DISJ2: from `q`, `p \/ q`, for a formula over the basis.
@@ -209,8 +229,13 @@ impl Lemmas {
         ensures gives { IfOk result (λ th. over a.now.basis (disj2_of a.now.basis (nameless [] p.now) a.now.sequent) ≡ Some th) }
         ensures kept { self.new ≡ self.old }
     {
+        a.promise();
         a.well_typed();
-        self.follow(alloc, Lemma::Disj2, p, a.concl(), a)
+        let _ty = p.type_of();
+        self.establish(alloc, Lemma::Disj2)?;
+        let concl = self.mk_disj(alloc, p, a.concl())?;
+        let hyps = a.hypotheses().copy()?;
+        Thm::closed(a.basis(), hyps, concl)
     }
 
     /// CONTR: from `F`, a formula over the basis.
@@ -220,7 +245,13 @@ impl Lemmas {
         ensures gives { IfOk result (λ th. over a.now.basis (contr_of a.now.basis (nameless [] p.now) a.now.sequent) ≡ Some th) }
         ensures kept { self.new ≡ self.old }
     {
-        self.follow(alloc, Lemma::Contr, p, p, a)
+        a.promise();
+        a.well_typed();
+        let _ty = p.type_of();
+        self.establish(alloc, Lemma::Contr)?;
+        let concl = p.copy()?;
+        let hyps = a.hypotheses().copy()?;
+        Thm::closed(a.basis(), hyps, concl)
     }
 
     /// EQT_INTRO: from `p`, `p <=> T`.
@@ -229,51 +260,12 @@ impl Lemmas {
         ensures gives { IfOk result (λ th. th ≡ theorem_on a.now.basis (eqt_intro_of a.now.sequent)) }
         ensures kept { self.new ≡ self.old }
     {
+        a.promise();
         a.well_typed();
-        self.follow(alloc, Lemma::EqtIntro, a.concl(), a.concl(), a)
-    }
-
-    /// SYM of an equation of formulas: from `p <=> q`, `q <=> p`.
-    pub(crate) fn turned(&mut self, alloc: Global, a: &Thm) -> Result<Thm, AllocError>
-        requires one_basis { self.old ≡ a.now.basis }
-        requires is { a.now.sequent.concl ≡ equivalence (lhs a.now.sequent.concl) (rhs a.now.sequent.concl) }
-        ensures gives { IfOk result (λ th. th ≡ theorem_on a.now.basis (sequent_of a.now.sequent.hyps (equivalence (rhs a.now.sequent.concl) (lhs a.now.sequent.concl)))) }
-        ensures kept { self.new ≡ self.old }
-    {
-        a.well_typed();
-        let Some(sides) = sides_of(a) else {
-            unreachable!()
-        };
-        self.follow(alloc, Lemma::Turn, sides.left, sides.right, a)
-    }
-
-    // From `p`, `(\v. p) = (\v. T)`.
-    fn under_truth(&mut self, alloc: Global, v: &Variable, a: &Thm) -> Result<Thm, AllocError>
-        requires one_basis { self.old ≡ a.now.basis }
-        requires stands { is_type a.now.basis v.now.1 ≡ true }
-        requires absent { is_free_in (set.items a.now.sequent.hyps) v.now ≡ false }
-        ensures gives { IfOk result (λ th. th ≡ theorem_on a.now.basis (sequent_of a.now.sequent.hyps (equation (fun_type v.now.1 bool_type) (bind v.now a.now.sequent.concl) (bind v.now truth)))) }
-        ensures kept { self.new ≡ self.old }
-    {
-        let holds = self.eqt_intro(alloc, a)?;
-        abs(alloc, v, &holds)
-    }
-
-    // From `f = (\v. T)`, `(!) f`.
-    fn for_all(&mut self, alloc: Global, v: &Variable, constant: &Thm) -> Result<Thm, AllocError>
-        requires one_basis { self.old ≡ constant.now.basis }
-        requires stands { is_type constant.now.basis v.now.1 ≡ true }
-        requires is { constant.now.sequent.concl ≡ equation (fun_type v.now.1 bool_type) (lhs constant.now.sequent.concl) (bind v.now truth) }
-        ensures gives { IfOk result (λ th. th ≡ theorem_on constant.now.basis (sequent_of constant.now.sequent.hyps (app (fixed (codes "!") (quantifier_type v.now.1)) (lhs constant.now.sequent.concl)))) }
-        ensures kept { self.new ≡ self.old }
-    {
-        constant.well_typed();
-        let Some(sides) = sides_of(constant) else {
-            unreachable!()
-        };
-        let general = self.get(alloc, Lemma::Gen)?;
-        let own = with_predicate(alloc, &general, v.ty(), sides.left)?;
-        eq_mp(alloc, &own, constant)
+        self.establish(alloc, Lemma::EqtIntro)?;
+        let concl = self.mk_proved(alloc, a.concl())?;
+        let hyps = a.hypotheses().copy()?;
+        Thm::closed(a.basis(), hyps, concl)
     }
 
     /// GEN: from `p`, `!v. p`, for a variable of a type over the basis that is free in no hypothesis.
@@ -284,8 +276,12 @@ impl Lemmas {
         ensures gives { IfOk result (λ th. th ≡ theorem_on a.now.basis (generalized v.now a.now.sequent)) }
         ensures kept { self.new ≡ self.old }
     {
-        let constant = self.under_truth(alloc, v, a)?;
-        self.for_all(alloc, v, &constant)
+        a.promise();
+        a.well_typed();
+        self.establish_gen(alloc)?;
+        let concl = mk_forall(alloc, v, a.concl())?;
+        let hyps = a.hypotheses().copy()?;
+        Thm::closed(a.basis(), hyps, concl)
     }
 
     /// GEN: from `p`, `!v. p`, for a variable that is free in no hypothesis.

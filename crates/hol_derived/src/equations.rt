@@ -13,11 +13,12 @@ ghost use Rattle.hol_equal.specs.Applied.{lhs, rhs, under};
 ghost use Rattle.hol_derived.specs.Applied.{abstraction_in, abstraction_term};
 ghost use Rattle.hol_derived.specs.Unfolded.{replaced};
 
+use crate::signs::connective;
 use hol_equal::applied::{ap_term, beta_conv, eq_mp, sym};
-use hol_formulas::{bool_type, connective_type, constant};
+use hol_formulas::{bool_type, connective_type};
 use hol_kernel::{Basis, Thm};
 use hol_terms::Term;
-use hol_types::{Name, Ty};
+use hol_types::Ty;
 use std::alloc::{AllocError, Global};
 
 /// EQ_MP after SYM: from `l = r` and `m`, where `r` and `m` are equal up to bound names, `l`.
@@ -55,15 +56,6 @@ pub fn contracted(alloc: Global, basis: &Basis, f: &Term, t: &Term) -> Result<Th
 {
     let truth = bool_type(alloc)?;
     contracted_at(alloc, basis, &truth, f, t)
-}
-
-// The sign of the connective of the name.
-fn connective(alloc: Global, name: &str) -> Result<Term, AllocError>
-    ensures { IfOk result (λ t. t ≡ constant name.now connective_type) }
-{
-    let ty = connective_type(alloc)?;
-    let own = Name::new(alloc, name)?;
-    constant(alloc, &own, &ty)
 }
 
 /// From `p = q`, `c p = c q`, for the sign `c` of the connective of the name.

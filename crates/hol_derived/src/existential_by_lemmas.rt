@@ -20,7 +20,7 @@ use crate::equations::contracted;
 use crate::existential::with_antecedent;
 use crate::lemma::Lemma;
 use crate::lemmas::{Lemmas, with_predicate, with_witness};
-use hol_equal::applied::{eq_mp, prove_hyp, sides_of};
+use hol_equal::applied::{eq_mp, prove_hyp, sides_of, sym};
 use hol_formulas::{dest_exists, occurrence};
 use hol_kernel::Thm;
 use hol_terms::{Term, TermNode, Variable};
@@ -38,7 +38,7 @@ impl Lemmas {
         ensures kept { self.new ≡ self.old }
     {
         let equal = contracted(alloc, a.basis(), f, t)?;
-        let back = self.turned(alloc, &equal)?;
+        let back = sym(alloc, &equal)?;
         eq_mp(alloc, &back, a)
     }
 

@@ -36,8 +36,6 @@ use std::alloc::{AllocError, Global};
 pub(crate) enum Lemma {
     /// `|- p <=> (p <=> T)`.
     EqtIntro,
-    /// `|- (p <=> q) <=> (q <=> p)`.
-    Turn,
     /// `{p, q} |- p /\ q`.
     Both,
     /// `{q} |- p <=> p /\ q`.
@@ -73,7 +71,7 @@ pub(crate) enum Lemma {
 }
 
 /// The general theorems, those that are used most first.
-pub(crate) const LEMMAS: [Lemma; 18] = [
+pub(crate) const LEMMAS: [Lemma; 17] = [
     Lemma::Mp,
     Lemma::Both,
     Lemma::Conj,
@@ -84,7 +82,6 @@ pub(crate) const LEMMAS: [Lemma; 18] = [
     Lemma::EqtIntro,
     Lemma::Gen,
     Lemma::Exists,
-    Lemma::Turn,
     Lemma::Choose,
     Lemma::DisjCases,
     Lemma::Disj1,
@@ -100,7 +97,7 @@ impl Lemma {
         ensures { result ≡ is_equation self }
     {
         match self {
-            Lemma::EqtIntro | Lemma::Turn | Lemma::Disch | Lemma::NotIntro | Lemma::Gen => true,
+            Lemma::EqtIntro | Lemma::Disch | Lemma::NotIntro | Lemma::Gen => true,
             Lemma::Both | Lemma::Conj | Lemma::Conjunct1 | Lemma::Conjunct2 => false,
             Lemma::Mp | Lemma::Disj1 | Lemma::Disj2 | Lemma::DisjCases => false,
             Lemma::Contr | Lemma::EqfIntro => false,
@@ -115,7 +112,6 @@ pub(crate) fn derived(alloc: Global, basis: &Basis, which: Lemma) -> Result<Thm,
 {
     match which {
         Lemma::EqtIntro => eqt_intro(alloc, basis),
-        Lemma::Turn => turn(alloc, basis),
         Lemma::Both => both(alloc, basis),
         Lemma::Conj => conj(alloc, basis),
         Lemma::Conjunct1 => conjunct1(alloc, basis),
@@ -160,27 +156,6 @@ fn eqt_intro(alloc: Global, basis: &Basis) -> Result<Thm, AllocError>
     let holds = letter_is_true(alloc, basis)?;
     let back = from_truth(alloc, &holds)?;
     Thm::deduct_antisym(alloc, &back, &holds)
-}
-
-// `{l <=> r} |- r <=> l`, of the variables of the names.
-fn turned_letters(alloc: Global, basis: &Basis, left: &str, right: &str) -> Result<Thm, AllocError>
-    ensures { IfOk result (λ th. th ≡ theorem_on basis.now (sequent_of (only_hyp (equivalence (letter left.now) (letter right.now))) (equivalence (letter right.now) (letter left.now)))) }
-{
-    let l = letter(alloc, left)?;
-    let r = letter(alloc, right)?;
-    let truth = bool_type(alloc)?;
-    let equal = mk_eq(alloc, &truth, &l, &r)?;
-    let assumed = assume(alloc, basis, &equal)?;
-    sym(alloc, &assumed)
-}
-
-// `|- (p <=> q) <=> (q <=> p)`.
-fn turn(alloc: Global, basis: &Basis) -> Result<Thm, AllocError>
-    ensures { IfOk result (λ th. th ≡ theorem_on basis.now (general Lemma.Turn)) }
-{
-    let forward = turned_letters(alloc, basis, "p", "q")?;
-    let back = turned_letters(alloc, basis, "q", "p")?;
-    Thm::deduct_antisym(alloc, &back, &forward)
 }
 
 // `{p, q} |- p /\ q`.

@@ -1,25 +1,24 @@
 //! General theorems over one basis, each made when it is first used, and instances of them.
-ghost use Rattle.std.specs.Prelude.{◌≡◌, ◌∷◌, [], true, IfOk, IfSome, codes, Ok};
-ghost use Rattle.hol_terms.specs.Named.{var};
+ghost use Rattle.std.specs.Prelude.{◌≡◌, ◌∷◌, [], true, IfOk, IfSome, IsTrue, Some, codes};
+ghost use Rattle.hol_terms.specs.Named.{named_type, var};
 ghost use Rattle.hol_types.specs.Fun.{fun_type};
-ghost use Rattle.hol_terms.specs.Alpha.{strip};
 ghost use Rattle.hol_terms.specs.Nameless.{nameless};
-ghost use Rattle.hol_formulas.specs.Equation.{bool_type};
-ghost use Rattle.hol_formulas.specs.Formula.{truth};
-ghost use Rattle.hol_formulas.specs.Prelude.{boolean};
+ghost use Rattle.hol_formulas.specs.Equation.{bool_type, mk_eq};
+ghost use Rattle.hol_formulas.specs.Formula.{equivalence, truth};
+ghost use Rattle.hol_formulas.specs.Making.{mk_conj, mk_disj, mk_falsity, mk_imp, mk_neg};
 ghost use Rattle.hol_subst.specs.Substitution.{term_subst};
 ghost use Rattle.hol_kernel.specs.Items.{IsSubset, no_items};
 ghost use Rattle.hol_kernel.specs.Rules.{sequent_image};
-ghost use Rattle.hol_kernel.specs.Sequent.{no_hyps, only_hyp, sequent_of};
+ghost use Rattle.hol_kernel.specs.Sequent.{no_hyps, sequent_of};
 ghost use Rattle.hol_kernel.specs.Theorem.{theorem_on};
 ghost use Rattle.hol_kernel.specs.Typing.{HasType, is_type};
-ghost use Rattle.hol_derived.specs.Lemmas.{hypothesis, assumed, conclusion, lemma_at, general, put, put_three, put_predicate, put_at};
+ghost use Rattle.hol_derived.specs.Lemmas.{general, put_predicate, put_at, IsKnown, DischKnown, GenKnown, CasesKnown};
 
 use crate::lemma::{LEMMAS, Lemma, derived};
-use crate::letters::letter;
+use crate::signs::{between, connective, negation_sign};
 use crate::truth::truth;
 use hol_equal::applied::inst_type;
-use hol_formulas::{bool_type, occurrence, variable};
+use hol_formulas::{bool_type, mk_falsity, occurrence, variable};
 use hol_kernel::{Basis, Thm};
 use hol_terms::Term;
 use hol_types::Ty;
@@ -27,14 +26,17 @@ use std::alloc::{AllocError, Global};
 use std::marker::Model;
 
 /// The general theorems of the rules over one basis. Each is derived when a rule first needs it, and then kept, so that who uses many rules pays for their
-/// derivations once; who works over many bases has them all made over no items, and brings them to each. `|- T` is kept beside them, and the variables `p` and
-/// `q` that instances are made of.
+/// derivations once; who works over many bases has them all made over no items, and brings them to each. Rules have their derivations from them, and make nothing
+/// of them. `|- T` is kept beside them, and the constants that rules make formulas with.
 #[derive(Drop)]
 pub struct Lemmas {
     basis: Basis,
     truth: Thm,
-    p: Term,
-    q: Term,
+    conjunction: Term,
+    disjunction: Term,
+    implication: Term,
+    negation: Term,
+    falsity: Term,
     made: Vec<(Lemma, Thm)>,
 }
 
@@ -48,7 +50,7 @@ impl Model for Lemmas {
 
     ghost view = { λ l. l.basis };
 
-    ghost invariant = { λ l. AreKept l.basis l.made.items l.truth l.p l.q };
+    ghost invariant = { λ l. AreKept l.basis l.made.items l.truth l.conjunction l.disjunction l.implication l.negation l.falsity };
 }
 
 impl Lemmas {
@@ -59,8 +61,11 @@ impl Lemmas {
         Ok(Lemmas {
             basis: basis.copy()?,
             truth: truth(alloc, basis)?,
-            p: letter(alloc, "p")?,
-            q: letter(alloc, "q")?,
+            conjunction: connective(alloc, "/\\")?,
+            disjunction: connective(alloc, "\\/")?,
+            implication: connective(alloc, "==>")?,
+            negation: negation_sign(alloc)?,
+            falsity: mk_falsity(alloc)?,
             made: Vec::new(alloc),
         })
     }
@@ -89,8 +94,11 @@ impl Lemmas {
         Ok(Lemmas {
             basis: basis.copy()?,
             truth: self.truth.widen(basis)?,
-            p: self.p.copy()?,
-            q: self.q.copy()?,
+            conjunction: self.conjunction.copy()?,
+            disjunction: self.disjunction.copy()?,
+            implication: self.implication.copy()?,
+            negation: self.negation.copy()?,
+            falsity: self.falsity.copy()?,
             made,
         })
     }
@@ -127,104 +135,120 @@ impl Lemmas {
         Ok(th)
     }
 
-    // The formulas beside the variables `p` and `q`.
-    fn beside_letters(
-        &self,
-        alloc: Global,
-        p: &Term,
-        q: &Term,
-    ) -> Result<Vec<(Term, Term)>, AllocError>
-        ensures { IfOk result (λ pairs. pairs.items ≡ (p.now, var (boolean (codes "p"))) ∷ (q.now, var (boolean (codes "q"))) ∷ []) }
+    // Whether the general theorem was made: then it is a theorem.
+    fn is_made(&self, which: Lemma) -> bool
+        ensures { IsTrue result → IsKnown self.now which }
     {
-        let mut pairs = Vec::with_capacity(alloc, 2)?;
-        pairs.push((p.copy()?, self.p.copy()?))?;
-        pairs.push((q.copy()?, self.q.copy()?))?;
-        Ok(pairs)
-    }
-
-    // INST: the theorem with the formulas for the variables `p` and `q`.
-    fn with_formulas(&self, alloc: Global, a: &Thm, p: &Term, q: &Term) -> Result<Thm, AllocError>
-        requires first { HasType a.now.basis (nameless [] p.now) bool_type }
-        requires second { HasType a.now.basis (nameless [] q.now) bool_type }
-        ensures { IfOk result (λ th. th ≡ theorem_on a.now.basis (put (nameless [] p.now) (nameless [] q.now) a.now.sequent)) }
-    {
-        let pairs = self.beside_letters(alloc, p, q)?;
-        Thm::inst_typed(alloc, &pairs, a)
-    }
-
-    // The formulas beside the variables `p`, `q` and `r`.
-    fn beside_three(
-        &self,
-        alloc: Global,
-        p: &Term,
-        q: &Term,
-        r: &Term,
-    ) -> Result<Vec<(Term, Term)>, AllocError>
-        ensures { IfOk result (λ pairs. pairs.items ≡ (p.now, var (boolean (codes "p"))) ∷ (q.now, var (boolean (codes "q"))) ∷ (r.now, var (boolean (codes "r"))) ∷ []) }
-    {
-        let mut pairs = self.beside_letters(alloc, p, q)?;
-        pairs.push((r.copy()?, letter(alloc, "r")?))?;
-        Ok(pairs)
-    }
-
-    /// INST: the theorem with the formulas for the variables `p`, `q` and `r`.
-    pub(crate) fn with_three(
-        &self,
-        alloc: Global,
-        a: &Thm,
-        p: &Term,
-        q: &Term,
-        r: &Term,
-    ) -> Result<Thm, AllocError>
-        requires first { HasType a.now.basis (nameless [] p.now) bool_type }
-        requires second { HasType a.now.basis (nameless [] q.now) bool_type }
-        requires third { HasType a.now.basis (nameless [] r.now) bool_type }
-        ensures { IfOk result (λ th. th ≡ theorem_on a.now.basis (put_three (nameless [] p.now) (nameless [] q.now) (nameless [] r.now) a.now.sequent)) }
-    {
-        let pairs = self.beside_three(alloc, p, q, r)?;
-        Thm::inst_typed(alloc, &pairs, a)
-    }
-
-    /// An instance of the general theorem.
-    pub(crate) fn instance(
-        &mut self,
-        alloc: Global,
-        which: Lemma,
-        p: &Term,
-        q: &Term,
-    ) -> Result<Thm, AllocError>
-        requires first { HasType self.old (nameless [] p.now) bool_type }
-        requires second { HasType self.old (nameless [] q.now) bool_type }
-        ensures is { IfOk result (λ th. th ≡ theorem_on self.old (lemma_at which (nameless [] p.now) (nameless [] q.now))) }
-        ensures kept { self.new ≡ self.old }
-    {
-        let own = self.get(alloc, which)?;
-        self.with_formulas(alloc, &own, p, q)
-    }
-
-    /// What an instance of the general theorem concludes from the premise, which is what it assumes, or is an equation of.
-    pub(crate) fn follow(
-        &mut self,
-        alloc: Global,
-        which: Lemma,
-        p: &Term,
-        q: &Term,
-        premise: &Thm,
-    ) -> Result<Thm, AllocError>
-        requires over { self.old ≡ premise.now.basis }
-        requires first { HasType self.old (nameless [] p.now) bool_type }
-        requires second { HasType self.old (nameless [] q.now) bool_type }
-        requires assumes { assumed which (nameless [] p.now) (nameless [] q.now) ≡ only_hyp (hypothesis which (nameless [] p.now) (nameless [] q.now)) }
-        requires proved { strip (hypothesis which (nameless [] p.now) (nameless [] q.now)) ≡ strip premise.now.sequent.concl }
-        ensures is { IfOk result (λ th. th ≡ theorem_on self.old (sequent_of premise.now.sequent.hyps (conclusion which (nameless [] p.now) (nameless [] q.now)))) }
-        ensures kept { self.new ≡ self.old }
-    {
-        let own = self.get(alloc, which)?;
-        let pairs = self.beside_letters(alloc, p, q)?;
-        if which.is_equation() {
-            return Thm::follow_equivalence(alloc, &pairs, &own, premise);
+        match self.find(which) {
+            Some(th) => {
+                th.promise();
+                true
+            }
+            None => false,
         }
-        Thm::follow_assumption(alloc, &pairs, &own, premise)
+    }
+
+    /// Makes the general theorem where it isn't made yet, so that there is one.
+    pub(crate) fn establish(&mut self, alloc: Global, which: Lemma) -> Result<(), AllocError>
+        ensures established { IfOk result (λ _. IsKnown self.old which) }
+        ensures kept { self.new ≡ self.old }
+    {
+        if self.is_made(which) {
+            return Ok(());
+        }
+        let th = derived(alloc, &self.basis, which)?;
+        th.promise();
+        self.made.push((which, th))?;
+        Ok(())
+    }
+
+    /// Makes what DISCH goes by, as [`Lemmas::establish`].
+    pub(crate) fn establish_disch(&mut self, alloc: Global) -> Result<(), AllocError>
+        ensures established { IfOk result (λ _. DischKnown self.old) }
+        ensures kept { self.new ≡ self.old }
+    {
+        self.establish(alloc, Lemma::Both)?;
+        self.establish(alloc, Lemma::Conjunct1)?;
+        self.establish(alloc, Lemma::Disch)
+    }
+
+    /// Makes what GEN goes by, as [`Lemmas::establish`].
+    pub(crate) fn establish_gen(&mut self, alloc: Global) -> Result<(), AllocError>
+        ensures established { IfOk result (λ _. GenKnown self.old) }
+        ensures kept { self.new ≡ self.old }
+    {
+        self.establish(alloc, Lemma::EqtIntro)?;
+        self.establish(alloc, Lemma::Gen)
+    }
+
+    /// Makes what DISJ_CASES goes by, as [`Lemmas::establish`].
+    pub(crate) fn establish_cases(&mut self, alloc: Global) -> Result<(), AllocError>
+        ensures established { IfOk result (λ _. CasesKnown self.old) }
+        ensures kept { self.new ≡ self.old }
+    {
+        self.establish_disch(alloc)?;
+        self.establish(alloc, Lemma::Mp)?;
+        self.establish(alloc, Lemma::DisjCases)
+    }
+
+    /// `p /\ q`.
+    pub(crate) fn mk_conj(&self, alloc: Global, p: &Term, q: &Term) -> Result<Term, AllocError>
+        requires first { named_type p.now ≡ Some bool_type }
+        requires second { named_type q.now ≡ Some bool_type }
+        ensures is { IfOk result (λ t. t ≡ mk_conj p.now q.now) }
+        ensures typed { IfOk result (λ t. named_type t ≡ Some bool_type) }
+    {
+        between(alloc, &self.conjunction, p, q)
+    }
+
+    /// `p \/ q`.
+    pub(crate) fn mk_disj(&self, alloc: Global, p: &Term, q: &Term) -> Result<Term, AllocError>
+        requires first { named_type p.now ≡ Some bool_type }
+        requires second { named_type q.now ≡ Some bool_type }
+        ensures is { IfOk result (λ t. t ≡ mk_disj p.now q.now) }
+        ensures typed { IfOk result (λ t. named_type t ≡ Some bool_type) }
+    {
+        between(alloc, &self.disjunction, p, q)
+    }
+
+    /// `p ==> q`.
+    pub(crate) fn mk_imp(&self, alloc: Global, p: &Term, q: &Term) -> Result<Term, AllocError>
+        requires first { named_type p.now ≡ Some bool_type }
+        requires second { named_type q.now ≡ Some bool_type }
+        ensures is { IfOk result (λ t. t ≡ mk_imp p.now q.now) }
+        ensures typed { IfOk result (λ t. named_type t ≡ Some bool_type) }
+    {
+        between(alloc, &self.implication, p, q)
+    }
+
+    /// `~p`.
+    #[tactic(auto, using(hol_formulas::proofs::PartTypes::applications))]
+    pub(crate) fn mk_neg(&self, alloc: Global, p: &Term) -> Result<Term, AllocError>
+        requires typed { named_type p.now ≡ Some bool_type }
+        ensures is { IfOk result (λ t. t ≡ mk_neg p.now) }
+        ensures typed { IfOk result (λ t. named_type t ≡ Some bool_type) }
+    {
+        Term::application(alloc, &self.negation, p)
+    }
+
+    /// `p <=> F`.
+    pub(crate) fn mk_refuted(&self, alloc: Global, p: &Term) -> Result<Term, AllocError>
+        requires typed { named_type p.now ≡ Some bool_type }
+        ensures is { IfOk result (λ t. t ≡ mk_eq bool_type p.now mk_falsity) }
+        ensures typed { IfOk result (λ t. named_type t ≡ Some bool_type) }
+    {
+        let truth = self.falsity.type_of();
+        self.basis.equation(alloc, truth, p, &self.falsity)
+    }
+
+    /// `p <=> T`.
+    pub(crate) fn mk_proved(&self, alloc: Global, p: &Term) -> Result<Term, AllocError>
+        requires typed { named_type p.now ≡ Some bool_type }
+        ensures is { IfOk result (λ t. nameless [] t ≡ equivalence (nameless [] p.now) truth) }
+        ensures typed { IfOk result (λ t. named_type t ≡ Some bool_type) }
+    {
+        let truth = self.truth.concl();
+        self.basis.equation(alloc, truth.type_of(), p, truth)
     }
 }
 

@@ -17,6 +17,7 @@ mod implication;
 mod lemma;
 mod lemmas;
 mod letters;
+mod signs;
 mod truth;
 mod universal;
 mod universal_by_lemmas;

@@ -1,16 +1,36 @@
-use Rattle.std.proofs.Common.{[], ap, codes, refl, subst, sym, ◌∙◌, ◌≡◌}
-use Rattle.hol_terms.specs.Nameless.{Nameless, nameless}
+use Rattle.std.proofs.Common.{◌≡◌, ap, sym, ◌∙◌, subst, List, [], ◌∷◌, Some, refl, codes, true, false}
+use Rattle.std.specs.Prelude.{None, ℕ}
+use Rattle.std.specs.FinSet as set
+use Rattle.std.specs.Option.{option_map}
+use Rattle.hol_types.specs.Tree.{TypeTree}
+use Rattle.hol_types.specs.Fun.{fun_type}
+use Rattle.hol_terms.specs.Named.{named_type}
+use Rattle.hol_terms.specs.Nameless.{Nameless, nameless, fixed, app}
+use Rattle.hol_terms.specs.Alpha.{strip, alpha_eq}
+use Rattle.hol_terms.proofs.Alpha.{alpha_eq_decides}
+use Rattle.hol_subst.specs.Closing.{bind}
+use Rattle.hol_subst.proofs.Closing.{close_under}
 use Rattle.hol_formulas.specs.Equation.{bool_type}
-use Rattle.hol_formulas.specs.Formula.{dest_disj}
+use Rattle.hol_formulas.specs.Formula.{truth, falsity, negation, conjunction, disjunction, implication, equivalence, connective_type, negation_type, quantifier_type, is_falsity, dest_conj, dest_disj, dest_imp, dest_neg, universal}
+use Rattle.hol_formulas.proofs.FormulaLaws.{dest_binary_is, dest_unary_is}
 use Rattle.hol_kernel.specs.Items.{Items}
-use Rattle.hol_kernel.specs.Sequent.{sequent_of}
-use Rattle.hol_kernel.specs.Theorem.{theorem_on}
-use Rattle.hol_kernel.specs.Typing.{HasType}
+use Rattle.hol_kernel.specs.Sequent.{Hyps, only_hyp, sequent_of}
+use Rattle.hol_kernel.specs.Theorem.{theorem_on, theorem_over, over}
+use Rattle.hol_kernel.specs.Typing.{HasType, has_type}
+use Rattle.hol_kernel.proofs.Declared.{has_type_is}
+use Rattle.hol_kernel.proofs.InstRules.{along_nameless}
+use Rattle.hol_kernel.proofs.Sound.{second_over}
 use Rattle.hol_equal.proofs.Outcomes.{became}
-use Rattle.hol_equal.specs.Applied.{lhs, rhs, concluded}
-use Rattle.hol_derived.proofs.Connected.{operands_are, operands_found, operands_typed}
-use Rattle.hol_derived.specs.Applied.{by_cases, discharged}
-use Rattle.hol_derived.specs.Unfolded.{either}
+use Rattle.hol_equal.specs.Applied.{lhs, rhs, rand}
+use Rattle.hol_derived.specs.Applied.{first_conjunct, second_conjunct, negated, false_of, discharged, with_right, with_left, generalized, by_cases}
+use Rattle.hol_derived.specs.Lemmas.{IsKnown, DischKnown, GenKnown, CasesKnown}
+use Rattle.hol_derived.specs.Rules.{conjunct1_of, conjunct2_of, mp_of, undisch_of, disch_of, not_intro_of, disj1_of, disj2_of, contr_of, over_variable}
+use Rattle.hol_derived.specs.declared.lemma.Lemma.TheVariants.{EqtIntro, Both, Conj, Conjunct1, Conjunct2, Mp, Disch, Disj1, Disj2, Contr, NotIntro, EqfIntro}
+use Rattle.hol_derived.proofs.Connected.{operands_typed, operands_found, operands_are}
+use Rattle.hol_derived.proofs.Derivations.{conj_derived, conjunct1_derived, conjunct2_derived, mp_derived, undisch_derived, disch_derived, not_intro_derived, eqf_intro_derived, disj1_derived, disj2_derived, contr_derived, eqt_intro_derived}
+use Rattle.hol_derived.proofs.QuantifierDerivations.{gen_derived, cases_derived}
+use Rattle.hol_derived.proofs.Instances.{holds, refuted, gives_by}
+use Rattle.hol_derived.proofs.RuleAnswers.{mp_none, mp_other, mp_gives, disch_none, disch_gives, not_intro_none, not_intro_other, not_intro_gives, is_false, contr_other, contr_none, contr_gives, disj1_none, disj1_gives, disj2_none, disj2_gives}
 use Rattle.hol_derived.proofs.lemmas.Lemmas.by_cases.Goals as goal
 
 pub unreachable-requires : goal.unreachable-requires
@@ -19,53 +39,34 @@ unreachable-requires c =
     let r = rhs c.args.a.now.sequent.concl in
     operands_found l r (dest_disj (nameless [] c.concl.result.now)) c.in_default.ensures.parts (ap dest_disj (c.concl.ensures.concl ∙ c.requires.is))
 
-pub either-requires : goal.either-requires
-either-requires c =
+pub closed-requires : goal.closed-requires
+closed-requires c =
     let B = c.args.a.now.basis in
-    let s = c.args.a.now.sequent in
-    let t = c.args.b.now.sequent in
-    let p = lhs s.concl in
-    let q = rhs s.concl in
+    let a = c.args.a.now.sequent in
+    let b = c.args.b.now.sequent in
+    let d = c.args.c.now.sequent in
+    let p = lhs a.concl in
+    let q = rhs a.concl in
     let are : (nameless [] c.in-Some.p.now ≡ p) × (nameless [] c.in-Some.q.now ≡ q) = operands_are (nameless [] c.in-Some.p.now) (nameless [] c.in-Some.q.now) p q (dest_disj (nameless [] c.concl.result.now)) c.in-Some.ensures.parts (ap dest_disj (c.concl.ensures.concl ∙ c.requires.is)) in
+    let known : CasesKnown B = subst (λ (k : Items). CasesKnown k) c.requires.one_basis c.in_ok-establish_cases.ensures.established in
     let types = operands_typed B (codes "\\/") p q bool_type (subst (λ (n : Nameless). HasType B n bool_type) c.requires.is c.well_typed.ensures.conclusion) in
-    let third : HasType B t.concl bool_type = subst (λ (b : Items). HasType b t.concl bool_type) (sym c.requires.same_basis) c.well_typed-2.ensures.conclusion in
-    rw (are.0, are.1, c.concl-2.ensures.concl) record { one_basis = c.requires.one_basis; is = c.requires.is; first = types.0; second = types.1; third = third }
-
-pub one_case-requires : goal.one_case-requires
-one_case-requires c =
-    let B = c.args.a.now.basis in
-    let s = c.args.a.now.sequent in
-    let t = c.args.b.now.sequent in
-    let p = lhs s.concl in
-    let q = rhs s.concl in
-    let are : (nameless [] c.in-Some.p.now ≡ p) × (nameless [] c.in-Some.q.now ≡ q) = operands_are (nameless [] c.in-Some.p.now) (nameless [] c.in-Some.q.now) p q (dest_disj (nameless [] c.concl.result.now)) c.in-Some.ensures.parts (ap dest_disj (c.concl.ensures.concl ∙ c.requires.is)) in
-    let types = operands_typed B (codes "\\/") p q bool_type (subst (λ (n : Nameless). HasType B n bool_type) c.requires.is c.well_typed.ensures.conclusion) in
-    let own : c.in_ok-either.either ≡ theorem_on B (sequent_of s.hyps (either p q t.concl)) = c.in_ok-either.ensures.gives ∙ (λ i. theorem_on B (sequent_of s.hyps (either (are.0 i) (are.1 i) (c.concl-2.ensures.concl i)))) in
-    rw (own, are.0) record { one_basis = c.in_ok-either.ensures.kept ∙ c.requires.one_basis; same_basis = c.requires.same_basis; typed = types.0; is = refl; fits = refl }
-
-pub one_case-requires-2 : goal.one_case-requires-2
-one_case-requires-2 c =
-    let B = c.args.a.now.basis in
-    let s = c.args.a.now.sequent in
-    let t = c.args.b.now.sequent in
-    let p = lhs s.concl in
-    let q = rhs s.concl in
-    let are : (nameless [] c.in-Some.p.now ≡ p) × (nameless [] c.in-Some.q.now ≡ q) = operands_are (nameless [] c.in-Some.p.now) (nameless [] c.in-Some.q.now) p q (dest_disj (nameless [] c.concl.result.now)) c.in-Some.ensures.parts (ap dest_disj (c.concl.ensures.concl ∙ c.requires.is)) in
-    let types = operands_typed B (codes "\\/") p q bool_type (subst (λ (n : Nameless). HasType B n bool_type) c.requires.is c.well_typed.ensures.conclusion) in
-    let own : c.in_ok-either.either ≡ theorem_on B (sequent_of s.hyps (either p q t.concl)) = c.in_ok-either.ensures.gives ∙ (λ i. theorem_on B (sequent_of s.hyps (either (are.0 i) (are.1 i) (c.concl-2.ensures.concl i)))) in
-    let rest : c.in_ok-rest.rest ≡ theorem_on B (concluded (sequent_of s.hyps (either p q t.concl)) (discharged p t)) = c.in_ok-rest.ensures.gives ∙ (λ i. theorem_on (own i).basis (concluded (own i).sequent (discharged (are.0 i) t))) in
-    rw (rest, are.1) record { one_basis = c.in_ok-rest.ensures.kept ∙ c.in_ok-either.ensures.kept ∙ c.requires.one_basis; same_basis = c.requires.third_basis; typed = types.1; is = refl; fits = c.requires.fits }
+    let third : HasType B b.concl bool_type = subst (λ (k : Items). HasType k b.concl bool_type) (sym c.requires.same_basis) c.well_typed-2.ensures.conclusion in
+    along_nameless B c.basis.result.now (set.union (set.union a.hyps (set.remove b.hyps (strip p))) (set.remove d.hyps (strip q))) c.in_ok-hyps.hyps (b.concl) c.in_ok-concl.concl c.basis.ensures
+    (c.in_ok-hyps.ensures ∙ (λ i. set.union (set.union a.hyps (set.remove b.hyps (strip (are.0 i)))) (set.remove d.hyps (strip (are.1 i)))))
+    (ap (nameless []) c.in_ok-concl.ensures ∙ c.concl-2.ensures.concl)
+    (cases_derived B p q b.concl types.0 types.1 third a b.hyps d.hyps d.concl known c.requires.is c.requires.fits c.promise.ensures.derives (second_over c.args.a.now c.args.b.now c.requires.same_basis c.promise-2.ensures.derives) (second_over c.args.a.now c.args.c.now c.requires.third_basis c.promise-3.ensures.derives))
+    (ap named_type c.in_ok-concl.ensures ∙ c.concl-2.ensures.typed)
 
 pub returns-clause-gives : goal.returns-clause-gives
 returns-clause-gives c =
     let B = c.args.a.now.basis in
-    let s = c.args.a.now.sequent in
-    let t = c.args.b.now.sequent in
-    let p = lhs s.concl in
-    let q = rhs s.concl in
+    let a = c.args.a.now.sequent in
+    let b = c.args.b.now.sequent in
+    let d = c.args.c.now.sequent in
+    let p = lhs a.concl in
+    let q = rhs a.concl in
     let are : (nameless [] c.in-Some.p.now ≡ p) × (nameless [] c.in-Some.q.now ≡ q) = operands_are (nameless [] c.in-Some.p.now) (nameless [] c.in-Some.q.now) p q (dest_disj (nameless [] c.concl.result.now)) c.in-Some.ensures.parts (ap dest_disj (c.concl.ensures.concl ∙ c.requires.is)) in
-    let own : c.in_ok-either.either ≡ theorem_on B (sequent_of s.hyps (either p q t.concl)) = c.in_ok-either.ensures.gives ∙ (λ i. theorem_on B (sequent_of s.hyps (either (are.0 i) (are.1 i) (c.concl-2.ensures.concl i)))) in
-    let rest : c.in_ok-rest.rest ≡ theorem_on B (concluded (sequent_of s.hyps (either p q t.concl)) (discharged p t)) = c.in_ok-rest.ensures.gives ∙ (λ i. theorem_on (own i).basis (concluded (own i).sequent (discharged (are.0 i) t))) in
-    let u = c.args.c.now.sequent in
-    became c.one_case-2.result (theorem_on c.in_ok-rest.rest.basis (concluded c.in_ok-rest.rest.sequent (discharged (nameless [] c.in-Some.q.now) u))) (theorem_on B (by_cases s t u)) c.one_case-2.ensures.gives
-    (λ i. theorem_on (rest i).basis (concluded (rest i).sequent (discharged (are.1 i) u)))
+    let hs : c.in_ok-hyps.hyps ≡ set.union (set.union a.hyps (set.remove b.hyps (strip p))) (set.remove d.hyps (strip q)) = c.in_ok-hyps.ensures ∙ (λ i. set.union (set.union a.hyps (set.remove b.hyps (strip (are.0 i)))) (set.remove d.hyps (strip (are.1 i)))) in
+    let is : nameless [] c.in_ok-concl.concl ≡ b.concl = ap (nameless []) c.in_ok-concl.ensures ∙ c.concl-2.ensures.concl in
+    became c.closed.result (theorem_over c.basis.result.now c.in_ok-hyps.hyps (nameless [] c.in_ok-concl.concl)) (theorem_on B (by_cases a b d)) c.closed.ensures
+    ((λ i. theorem_over (c.basis.ensures i) (hs i) (is i)))

@@ -1,44 +1,46 @@
-use Rattle.std.proofs.Common.{◌≡◌, ap, ◌∙◌, [], refl}
-use Rattle.hol_terms.specs.Nameless.{nameless}
+use Rattle.std.proofs.Common.{◌≡◌, ap, sym, ◌∙◌, subst, List, [], ◌∷◌, Some, refl, codes, true, false}
+use Rattle.std.specs.Prelude.{None, ℕ}
+use Rattle.std.specs.FinSet as set
+use Rattle.std.specs.Option.{option_map}
+use Rattle.hol_types.specs.Tree.{TypeTree}
+use Rattle.hol_types.specs.Fun.{fun_type}
+use Rattle.hol_terms.specs.Nameless.{Nameless, nameless, fixed, app}
+use Rattle.hol_terms.specs.Alpha.{strip, alpha_eq}
+use Rattle.hol_terms.proofs.Alpha.{alpha_eq_decides}
+use Rattle.hol_subst.specs.Closing.{bind}
+use Rattle.hol_subst.proofs.Closing.{close_under}
 use Rattle.hol_formulas.specs.Equation.{bool_type}
-use Rattle.hol_formulas.specs.Formula.{conjunction, equivalence}
-use Rattle.hol_kernel.specs.Sequent.{sequent_of, Hyps}
-use Rattle.hol_kernel.specs.Theorem.{Theorem, theorem_on}
+use Rattle.hol_formulas.specs.Formula.{truth, falsity, negation, conjunction, disjunction, implication, equivalence, connective_type, negation_type, quantifier_type, is_falsity, dest_conj, dest_disj, dest_imp, dest_neg, universal}
+use Rattle.hol_formulas.proofs.FormulaLaws.{dest_binary_is, dest_unary_is}
+use Rattle.hol_kernel.specs.Items.{Items}
+use Rattle.hol_kernel.specs.Sequent.{Hyps, only_hyp, sequent_of}
+use Rattle.hol_kernel.specs.Theorem.{theorem_on, theorem_over, over}
+use Rattle.hol_kernel.specs.Typing.{HasType, has_type}
+use Rattle.hol_kernel.proofs.Declared.{has_type_is}
+use Rattle.hol_kernel.proofs.InstRules.{along_nameless}
+use Rattle.hol_kernel.proofs.Sound.{second_over}
 use Rattle.hol_equal.proofs.Outcomes.{became}
-use Rattle.hol_equal.specs.Applied as made
-use Rattle.hol_terms.specs.Alpha.{strip}
-use Rattle.hol_derived.proofs.Chains.{eq_mp_fits, followed}
-use Rattle.hol_derived.proofs.Instances.{typed_at}
-use Rattle.hol_derived.proofs.LemmaHypotheses.{swapped}
-use Rattle.hol_derived.specs.Rules.{conj_of}
+use Rattle.hol_equal.specs.Applied.{lhs, rhs, rand}
+use Rattle.hol_derived.specs.Applied.{first_conjunct, second_conjunct, negated, false_of, discharged, with_right, with_left, generalized, by_cases}
+use Rattle.hol_derived.specs.Lemmas.{IsKnown, DischKnown, GenKnown, CasesKnown}
+use Rattle.hol_derived.specs.Rules.{conjunct1_of, conjunct2_of, mp_of, undisch_of, disch_of, not_intro_of, disj1_of, disj2_of, contr_of, over_variable}
+use Rattle.hol_derived.specs.declared.lemma.Lemma.TheVariants.{EqtIntro, Both, Conj, Conjunct1, Conjunct2, Mp, Disch, Disj1, Disj2, Contr, NotIntro, EqfIntro}
+use Rattle.hol_derived.proofs.Connected.{operands_typed, operands_found, operands_are}
+use Rattle.hol_derived.proofs.Derivations.{conj_derived, conjunct1_derived, conjunct2_derived, mp_derived, undisch_derived, disch_derived, not_intro_derived, eqf_intro_derived, disj1_derived, disj2_derived, contr_derived, eqt_intro_derived}
+use Rattle.hol_derived.proofs.QuantifierDerivations.{gen_derived, cases_derived}
+use Rattle.hol_derived.proofs.Instances.{holds, refuted, gives_by}
+use Rattle.hol_derived.proofs.RuleAnswers.{mp_none, mp_other, mp_gives, disch_none, disch_gives, not_intro_none, not_intro_other, not_intro_gives, is_false, contr_other, contr_none, contr_gives, disj1_none, disj1_gives, disj2_none, disj2_gives}
 use Rattle.hol_derived.proofs.lemmas.Lemmas.conj.Goals as goal
 
-pub follow-requires : goal.follow-requires
-follow-requires c =
-    let one = c.requires.one_basis in
-    record {
-      over = one ∙ c.requires.same_basis;
-      first = typed_at c.args.self.now c.args.a.now.basis (nameless [] c.concl.result.now) c.args.a.now.sequent.concl one c.concl.ensures.concl c.well_typed.ensures.conclusion;
-      second = typed_at c.args.self.now c.args.b.now.basis (nameless [] c.concl-2.result.now) c.args.b.now.sequent.concl (one ∙ c.requires.same_basis) c.concl-2.ensures.concl c.well_typed-2.ensures.conclusion;
-      assumes = refl;
-      proved = ap strip c.concl-2.ensures.concl;
-    }
-
-pub eq_mp-requires : goal.eq_mp-requires
-eq_mp-requires c =
-    let A = c.args.a.now.basis in
+pub closed-requires : goal.closed-requires
+closed-requires c =
+    let B = c.args.a.now.basis in
     let a = c.args.a.now.sequent in
     let b = c.args.b.now.sequent in
-    let two = conjunction a.concl b.concl in
-    let equal : c.in_ok-equal.equal ≡ theorem_on A (sequent_of b.hyps (equivalence a.concl two)) = c.in_ok-equal.ensures.is ∙ (λ i. theorem_on (c.requires.one_basis i) (sequent_of b.hyps (equivalence (c.concl.ensures.concl i) (conjunction (c.concl.ensures.concl i) (c.concl-2.ensures.concl i))))) in
-    record { one_basis = ap (λ (th : Theorem). th.basis) equal; applies = eq_mp_fits A c.in_ok-equal.equal c.args.a.now b.hyps a.hyps bool_type a.concl two a.concl refl equal refl }
-
-pub returns-clause-gives : goal.returns-clause-gives
-returns-clause-gives c =
-    let A = c.args.a.now.basis in
-    let a = c.args.a.now.sequent in
-    let b = c.args.b.now.sequent in
-    let two = conjunction a.concl b.concl in
-    let equal : c.in_ok-equal.equal ≡ theorem_on A (sequent_of b.hyps (equivalence a.concl two)) = c.in_ok-equal.ensures.is ∙ (λ i. theorem_on (c.requires.one_basis i) (sequent_of b.hyps (equivalence (c.concl.ensures.concl i) (conjunction (c.concl.ensures.concl i) (c.concl-2.ensures.concl i))))) in
-    became c.eq_mp.result (theorem_on c.in_ok-equal.equal.basis (made.concluded c.in_ok-equal.equal.sequent a)) (theorem_on A (conj_of a b)) c.eq_mp.ensures
-    (followed A c.in_ok-equal.equal c.args.a.now b.hyps a.hyps bool_type a.concl two a.concl refl equal refl ∙ ap (λ (hs : Hyps). theorem_on A (sequent_of hs two)) (swapped b.hyps a.hyps))
+    let known : IsKnown B Conj = subst (λ (k : Items). IsKnown k Conj) c.requires.one_basis c.in_ok-establish.ensures.established in
+    let second : HasType B b.concl bool_type = subst (λ (k : Items). HasType k b.concl bool_type) (sym c.requires.same_basis) c.well_typed-2.ensures.conclusion in
+    along_nameless B c.basis.result.now (set.union a.hyps b.hyps) c.in_ok-hyps.hyps (conjunction a.concl b.concl) c.in_ok-concl.concl c.basis.ensures
+    (c.in_ok-hyps.ensures ∙ (λ i. set.union (c.hypotheses.ensures i) (c.hypotheses-2.ensures i)))
+    (ap (nameless []) c.in_ok-concl.ensures.is ∙ (λ i. conjunction (c.concl.ensures.concl i) (c.concl-2.ensures.concl i)))
+    (conj_derived B a.concl b.concl c.well_typed.ensures.conclusion second a b known refl refl c.promise.ensures.derives (second_over c.args.a.now c.args.b.now c.requires.same_basis c.promise-2.ensures.derives))
+    (c.in_ok-concl.ensures.typed)

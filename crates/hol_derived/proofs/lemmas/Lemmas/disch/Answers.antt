@@ -1,48 +1,57 @@
-use Rattle.std.proofs.Common.{◌≡◌, ap, sym, ◌∙◌, [], refl, true}
-use Rattle.hol_terms.specs.Nameless.{nameless}
+use Rattle.std.proofs.Common.{◌≡◌, ap, sym, ◌∙◌, subst, List, [], ◌∷◌, Some, refl, codes, true, false}
+use Rattle.std.specs.Prelude.{None, ℕ}
+use Rattle.std.specs.FinSet as set
+use Rattle.std.specs.Option.{option_map}
+use Rattle.hol_types.specs.Tree.{TypeTree}
+use Rattle.hol_types.specs.Fun.{fun_type}
+use Rattle.hol_terms.specs.Nameless.{Nameless, nameless, fixed, app}
+use Rattle.hol_terms.specs.Alpha.{strip, alpha_eq}
+use Rattle.hol_terms.proofs.Alpha.{alpha_eq_decides}
+use Rattle.hol_subst.specs.Closing.{bind}
+use Rattle.hol_subst.proofs.Closing.{close_under}
 use Rattle.hol_formulas.specs.Equation.{bool_type}
-use Rattle.hol_formulas.specs.Formula.{conjunction, implication, equivalence}
-use Rattle.hol_kernel.specs.Sequent.{sequent_of}
-use Rattle.hol_kernel.specs.Theorem.{Theorem, theorem_on, over}
-use Rattle.hol_terms.specs.Alpha.{strip}
-use Rattle.hol_derived.proofs.Instances.{typed_at, holds, gives_by}
-use Rattle.hol_kernel.specs.Typing.{has_type}
+use Rattle.hol_formulas.specs.Formula.{truth, falsity, negation, conjunction, disjunction, implication, equivalence, connective_type, negation_type, quantifier_type, is_falsity, dest_conj, dest_disj, dest_imp, dest_neg, universal}
+use Rattle.hol_formulas.proofs.FormulaLaws.{dest_binary_is, dest_unary_is}
+use Rattle.hol_kernel.specs.Items.{Items}
+use Rattle.hol_kernel.specs.Sequent.{Hyps, only_hyp, sequent_of}
+use Rattle.hol_kernel.specs.Theorem.{theorem_on, theorem_over, over}
+use Rattle.hol_kernel.specs.Typing.{HasType, has_type}
 use Rattle.hol_kernel.proofs.Declared.{has_type_is}
-use Rattle.hol_derived.specs.Applied.{discharged}
-use Rattle.hol_derived.specs.Rules.{disch_of}
-use Rattle.hol_derived.proofs.RuleAnswers.{disch_none, disch_gives}
+use Rattle.hol_kernel.proofs.InstRules.{along_nameless}
+use Rattle.hol_kernel.proofs.Sound.{second_over}
+use Rattle.hol_equal.proofs.Outcomes.{became}
+use Rattle.hol_equal.specs.Applied.{lhs, rhs, rand}
+use Rattle.hol_derived.specs.Applied.{first_conjunct, second_conjunct, negated, false_of, discharged, with_right, with_left, generalized, by_cases}
+use Rattle.hol_derived.specs.Lemmas.{IsKnown, DischKnown, GenKnown, CasesKnown}
+use Rattle.hol_derived.specs.Rules.{conjunct1_of, conjunct2_of, mp_of, undisch_of, disch_of, not_intro_of, disj1_of, disj2_of, contr_of, over_variable}
+use Rattle.hol_derived.specs.declared.lemma.Lemma.TheVariants.{EqtIntro, Both, Conj, Conjunct1, Conjunct2, Mp, Disch, Disj1, Disj2, Contr, NotIntro, EqfIntro}
+use Rattle.hol_derived.proofs.Connected.{operands_typed, operands_found, operands_are}
+use Rattle.hol_derived.proofs.Derivations.{conj_derived, conjunct1_derived, conjunct2_derived, mp_derived, undisch_derived, disch_derived, not_intro_derived, eqf_intro_derived, disj1_derived, disj2_derived, contr_derived, eqt_intro_derived}
+use Rattle.hol_derived.proofs.QuantifierDerivations.{gen_derived, cases_derived}
+use Rattle.hol_derived.proofs.Instances.{holds, refuted, gives_by}
+use Rattle.hol_derived.proofs.RuleAnswers.{mp_none, mp_other, mp_gives, disch_none, disch_gives, not_intro_none, not_intro_other, not_intro_gives, is_false, contr_other, contr_none, contr_gives, disj1_none, disj1_gives, disj2_none, disj2_gives}
 use Rattle.hol_derived.proofs.lemmas.Lemmas.disch.Goals as goal
 
-pub with_first-requires : goal.with_first-requires
-with_first-requires c =
-    let A = c.args.a.now.basis in
+pub closed-requires : goal.closed-requires
+closed-requires c =
+    let B = c.args.a.now.basis in
     let a = c.args.a.now.sequent in
     let p = nameless [] c.args.p.now in
-    let has : has_type A p bool_type ≡ true = holds (over A (disch_of A p a)) (has_type A p bool_type) c.requires.applies (λ e. ap (over A) (disch_none A p a e)) in
-    record { one_basis = c.requires.one_basis; typed = has_type_is A p bool_type has }
-
-pub follow-requires : goal.follow-requires
-follow-requires c =
-    let A = c.args.a.now.basis in
-    let a = c.args.a.now.sequent in
-    let p = nameless [] c.args.p.now in
-    let has : has_type A p bool_type ≡ true = holds (over A (disch_of A p a)) (has_type A p bool_type) c.requires.applies (λ e. ap (over A) (disch_none A p a e)) in
-    let own : c.with_first.new.self ≡ A = c.in_ok-equal.ensures.kept ∙ c.requires.one_basis in
-    let body = equivalence (conjunction p a.concl) p in
-    record {
-      over = own ∙ sym (ap (λ (th : Theorem). th.basis) c.in_ok-equal.ensures.gives);
-      first = typed_at c.with_first.new.self A p p own refl (has_type_is A p bool_type has);
-      second = typed_at c.with_first.new.self A (nameless [] c.concl.result.now) a.concl own c.concl.ensures.concl c.well_typed.ensures.conclusion;
-      assumes = refl;
-      proved = (λ i. strip (equivalence (conjunction p (c.concl.ensures.concl i)) p)) ∙ sym (ap (λ (th : Theorem). strip th.sequent.concl) c.in_ok-equal.ensures.gives);
-    }
+    let has : has_type B p bool_type ≡ true = holds (over B (disch_of B p a)) (has_type B p bool_type) c.requires.applies (λ e. ap (over B) (disch_none B p a e)) in
+    let known : DischKnown B = subst (λ (k : Items). DischKnown k) c.requires.one_basis c.in_ok-establish_disch.ensures.established in
+    along_nameless B c.basis.result.now (set.remove a.hyps (strip p)) c.in_ok-hyps.hyps (implication p a.concl) c.in_ok-concl.concl c.basis.ensures
+    (c.in_ok-hyps.ensures ∙ ap (λ (hs : Hyps). set.remove hs (strip p)) c.hypotheses.ensures)
+    (ap (nameless []) c.in_ok-concl.ensures.is ∙ ap (λ (n : Nameless). implication p n) c.concl.ensures.concl)
+    (disch_derived B p a.concl (has_type_is B p bool_type has) c.well_typed.ensures.conclusion a.hyps known.both known.first known.implied c.promise.ensures.derives)
+    (c.in_ok-concl.ensures.typed)
 
 pub returns-clause-gives : goal.returns-clause-gives
 returns-clause-gives c =
-    let A = c.args.a.now.basis in
+    let B = c.args.a.now.basis in
     let a = c.args.a.now.sequent in
     let p = nameless [] c.args.p.now in
-    let has : has_type A p bool_type ≡ true = holds (over A (disch_of A p a)) (has_type A p bool_type) c.requires.applies (λ e. ap (over A) (disch_none A p a e)) in
-    let own : c.with_first.new.self ≡ A = c.in_ok-equal.ensures.kept ∙ c.requires.one_basis in
-    gives_by c.follow.result (theorem_on c.with_first.new.self (sequent_of c.in_ok-equal.equal.sequent.hyps (implication p (nameless [] c.concl.result.now)))) A (disch_of A p a) (discharged p a) c.follow.ensures.is
-    (λ i. theorem_on (own i) (sequent_of (c.in_ok-equal.ensures.gives i).sequent.hyps (implication p (c.concl.ensures.concl i)))) (disch_gives A p a has)
+    let has : has_type B p bool_type ≡ true = holds (over B (disch_of B p a)) (has_type B p bool_type) c.requires.applies (λ e. ap (over B) (disch_none B p a e)) in
+    let hs : c.in_ok-hyps.hyps ≡ set.remove a.hyps (strip p) = c.in_ok-hyps.ensures ∙ ap (λ (hs : Hyps). set.remove hs (strip p)) c.hypotheses.ensures in
+    let is : nameless [] c.in_ok-concl.concl ≡ implication p a.concl = ap (nameless []) c.in_ok-concl.ensures.is ∙ ap (λ (n : Nameless). implication p n) c.concl.ensures.concl in
+    gives_by c.closed.result (theorem_over c.basis.result.now c.in_ok-hyps.hyps (nameless [] c.in_ok-concl.concl)) B (disch_of B p a) (discharged p a) c.closed.ensures
+    (λ i. theorem_over (c.basis.ensures i) (hs i) (is i)) (disch_gives B p a has)

@@ -1,18 +1,36 @@
-use Rattle.std.specs.Prelude.{None}
-use Rattle.std.proofs.Common.{◌≡◌, ap, sym, ◌∙◌, subst, [], Some, codes, refl}
-use Rattle.hol_terms.specs.Nameless.{Nameless, nameless}
+use Rattle.std.proofs.Common.{◌≡◌, ap, sym, ◌∙◌, subst, List, [], ◌∷◌, Some, refl, codes, true, false}
+use Rattle.std.specs.Prelude.{None, ℕ}
+use Rattle.std.specs.FinSet as set
+use Rattle.std.specs.Option.{option_map}
+use Rattle.hol_types.specs.Tree.{TypeTree}
+use Rattle.hol_types.specs.Fun.{fun_type}
+use Rattle.hol_terms.specs.Nameless.{Nameless, nameless, fixed, app}
+use Rattle.hol_terms.specs.Alpha.{strip, alpha_eq}
+use Rattle.hol_terms.proofs.Alpha.{alpha_eq_decides}
+use Rattle.hol_subst.specs.Closing.{bind}
+use Rattle.hol_subst.proofs.Closing.{close_under}
 use Rattle.hol_formulas.specs.Equation.{bool_type}
-use Rattle.hol_formulas.specs.Formula.{negation, negation_type, equivalence, falsity, dest_neg}
-use Rattle.hol_formulas.proofs.FormulaLaws.{dest_unary_is}
-use Rattle.hol_kernel.specs.Sequent.{sequent_of}
-use Rattle.hol_kernel.specs.Theorem.{theorem_on}
-use Rattle.hol_kernel.specs.Typing.{HasType}
+use Rattle.hol_formulas.specs.Formula.{truth, falsity, negation, conjunction, disjunction, implication, equivalence, connective_type, negation_type, quantifier_type, is_falsity, dest_conj, dest_disj, dest_imp, dest_neg, universal}
+use Rattle.hol_formulas.proofs.FormulaLaws.{dest_binary_is, dest_unary_is}
+use Rattle.hol_kernel.specs.Items.{Items}
+use Rattle.hol_kernel.specs.Sequent.{Hyps, only_hyp, sequent_of}
+use Rattle.hol_kernel.specs.Theorem.{theorem_on, theorem_over, over}
+use Rattle.hol_kernel.specs.Typing.{HasType, has_type}
+use Rattle.hol_kernel.proofs.Declared.{has_type_is}
+use Rattle.hol_kernel.proofs.InstRules.{along_nameless}
+use Rattle.hol_kernel.proofs.Sound.{second_over}
 use Rattle.hol_equal.proofs.Outcomes.{became}
-use Rattle.hol_equal.specs.Applied.{rand}
-use Rattle.hol_derived.specs.Applied.{false_of}
-use Rattle.hol_terms.specs.Alpha.{strip}
+use Rattle.hol_equal.specs.Applied.{lhs, rhs, rand}
+use Rattle.hol_derived.specs.Applied.{first_conjunct, second_conjunct, negated, false_of, discharged, with_right, with_left, generalized, by_cases}
+use Rattle.hol_derived.specs.Lemmas.{IsKnown, DischKnown, GenKnown, CasesKnown}
+use Rattle.hol_derived.specs.Rules.{conjunct1_of, conjunct2_of, mp_of, undisch_of, disch_of, not_intro_of, disj1_of, disj2_of, contr_of, over_variable}
+use Rattle.hol_derived.specs.declared.lemma.Lemma.TheVariants.{EqtIntro, Both, Conj, Conjunct1, Conjunct2, Mp, Disch, Disj1, Disj2, Contr, NotIntro, EqfIntro}
 use Rattle.hol_derived.proofs.Disjunctions.{argument_typed}
-use Rattle.hol_derived.proofs.Instances.{typed_at}
+use Rattle.hol_derived.proofs.Connected.{operands_typed, operands_found, operands_are}
+use Rattle.hol_derived.proofs.Derivations.{conj_derived, conjunct1_derived, conjunct2_derived, mp_derived, undisch_derived, disch_derived, not_intro_derived, eqf_intro_derived, disj1_derived, disj2_derived, contr_derived, eqt_intro_derived}
+use Rattle.hol_derived.proofs.QuantifierDerivations.{gen_derived, cases_derived}
+use Rattle.hol_derived.proofs.Instances.{holds, refuted, gives_by}
+use Rattle.hol_derived.proofs.RuleAnswers.{mp_none, mp_other, mp_gives, disch_none, disch_gives, not_intro_none, not_intro_other, not_intro_gives, is_false, contr_other, contr_none, contr_gives, disj1_none, disj1_gives, disj2_none, disj2_gives}
 use Rattle.hol_derived.proofs.lemmas.Lemmas.eqf_intro.Goals as goal
 
 pub unreachable-requires : goal.unreachable-requires
@@ -21,23 +39,29 @@ unreachable-requires c =
     let p = rand s.concl in
     let same : Some p ≡ None = sym (ap dest_neg c.requires.is) ∙ ap dest_neg (sym c.concl.ensures.concl) ∙ c.in_default.ensures.part in absurd (cc)
 
-pub follow-requires : goal.follow-requires
-follow-requires c =
-    let A = c.args.a.now.basis in
+pub closed-requires : goal.closed-requires
+closed-requires c =
+    let B = c.args.a.now.basis in
     let a = c.args.a.now.sequent in
-    let p = rand a.concl in
-    let own = nameless [] c.in-Some.p.now in
-    let found : dest_neg a.concl ≡ Some own = ap dest_neg (sym c.concl.ensures.concl) ∙ c.in-Some.ensures.part in
-    let part : own ≡ p = sym (ap rand (dest_unary_is (codes "~") negation_type a.concl own found)) in
-    let typed : HasType A (negation p) bool_type = subst (λ (u : Nameless). HasType A u bool_type) c.requires.is c.well_typed.ensures.conclusion in
-    let one : HasType c.args.self.now own bool_type = typed_at c.args.self.now A own p c.requires.one_basis part (argument_typed A (codes "~") bool_type bool_type bool_type p typed) in
-    record { over = c.requires.one_basis; first = one; second = one; assumes = refl; proved = ap strip (ap negation part ∙ sym c.requires.is) }
+    let p = nameless [] c.in-Some.p.now in
+    let found : dest_neg a.concl ≡ Some p = ap dest_neg (sym c.concl.ensures.concl) ∙ c.in-Some.ensures.part in
+    let parts : a.concl ≡ negation p = dest_unary_is (codes "~") negation_type a.concl p found in
+    let known : IsKnown B EqfIntro = subst (λ (k : Items). IsKnown k EqfIntro) c.requires.one_basis c.in_ok-establish.ensures.established in
+    let typed : HasType B p bool_type = argument_typed B (codes "~") bool_type bool_type bool_type p (subst (λ (u : Nameless). HasType B u bool_type) parts c.well_typed.ensures.conclusion) in
+    along_nameless B c.basis.result.now (a.hyps) c.in_ok-hyps.hyps (equivalence p falsity) c.in_ok-concl.concl c.basis.ensures
+    (c.in_ok-hyps.ensures ∙ c.hypotheses.ensures)
+    (ap (nameless []) c.in_ok-concl.ensures.is)
+    (eqf_intro_derived B p p typed typed a known parts c.promise.ensures.derives)
+    (c.in_ok-concl.ensures.typed)
 
 pub returns-clause-gives : goal.returns-clause-gives
 returns-clause-gives c =
-    let A = c.args.a.now.basis in
+    let B = c.args.a.now.basis in
     let a = c.args.a.now.sequent in
-    let own = nameless [] c.in-Some.p.now in
-    let found : dest_neg a.concl ≡ Some own = ap dest_neg (sym c.concl.ensures.concl) ∙ c.in-Some.ensures.part in
-    let part : own ≡ rand a.concl = sym (ap rand (dest_unary_is (codes "~") negation_type a.concl own found)) in
-    became c.follow.result (theorem_on c.args.self.now (sequent_of a.hyps (equivalence own falsity))) (theorem_on A (false_of a)) c.follow.ensures.is (λ i. theorem_on (c.requires.one_basis i) (sequent_of a.hyps (equivalence (part i) falsity)))
+    let p = nameless [] c.in-Some.p.now in
+    let found : dest_neg a.concl ≡ Some p = ap dest_neg (sym c.concl.ensures.concl) ∙ c.in-Some.ensures.part in
+    let parts : a.concl ≡ negation p = dest_unary_is (codes "~") negation_type a.concl p found in
+    let hs : c.in_ok-hyps.hyps ≡ a.hyps = c.in_ok-hyps.ensures ∙ c.hypotheses.ensures in
+    let is : nameless [] c.in_ok-concl.concl ≡ equivalence p falsity = ap (nameless []) c.in_ok-concl.ensures.is in
+    became c.closed.result (theorem_over c.basis.result.now c.in_ok-hyps.hyps (nameless [] c.in_ok-concl.concl)) (theorem_on B (false_of a)) c.closed.ensures
+    ((λ i. theorem_over (c.basis.ensures i) (hs i) (is i)) ∙ ap (λ (n : Nameless). theorem_on B (sequent_of a.hyps (equivalence (rand n) falsity))) (sym parts))

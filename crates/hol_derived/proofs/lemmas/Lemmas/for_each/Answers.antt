@@ -1,24 +1,55 @@
-use Rattle.std.proofs.Common.{◌∙◌, refl, codes}
-use Rattle.hol_terms.specs.Nameless.{fixed, app}
-use Rattle.hol_formulas.specs.Formula.{quantifier_type}
-use Rattle.hol_kernel.specs.Sequent.{sequent_of}
-use Rattle.hol_kernel.specs.Theorem.{theorem_on}
+use Rattle.std.proofs.Common.{◌≡◌, ap, sym, ◌∙◌, subst, List, [], ◌∷◌, Some, refl, codes, true, false}
+use Rattle.std.specs.Prelude.{None, ℕ}
+use Rattle.std.specs.FinSet as set
+use Rattle.std.specs.Option.{option_map}
+use Rattle.hol_types.specs.Tree.{TypeTree}
+use Rattle.hol_types.specs.Fun.{fun_type}
+use Rattle.hol_terms.specs.Nameless.{Nameless, nameless, fixed, app, base_of}
+use Rattle.hol_terms.specs.Alpha.{strip, alpha_eq}
+use Rattle.hol_terms.proofs.Alpha.{alpha_eq_decides}
+use Rattle.hol_subst.specs.Closing.{bind}
+use Rattle.hol_subst.proofs.Closing.{close_under}
+use Rattle.hol_formulas.specs.Equation.{bool_type}
+use Rattle.hol_formulas.specs.Formula.{truth, falsity, negation, conjunction, disjunction, implication, equivalence, connective_type, negation_type, quantifier_type, is_falsity, dest_conj, dest_disj, dest_imp, dest_neg, universal}
+use Rattle.hol_formulas.proofs.FormulaLaws.{dest_binary_is, dest_unary_is}
+use Rattle.hol_kernel.specs.Items.{Items}
+use Rattle.hol_kernel.specs.Sequent.{Hyps, only_hyp, sequent_of}
+use Rattle.hol_kernel.specs.Theorem.{theorem_on, theorem_over, over}
+use Rattle.hol_kernel.specs.Typing.{HasType, has_type}
+use Rattle.hol_kernel.proofs.Declared.{has_type_is}
+use Rattle.hol_kernel.proofs.InstRules.{along_nameless}
+use Rattle.hol_kernel.proofs.Sound.{second_over}
 use Rattle.hol_equal.proofs.Outcomes.{became}
-use Rattle.hol_equal.specs.Applied.{lhs}
-use Rattle.hol_derived.specs.Applied.{generalized}
+use Rattle.hol_equal.specs.Applied.{lhs, rhs, rand}
+use Rattle.hol_derived.specs.Applied.{first_conjunct, second_conjunct, negated, false_of, discharged, with_right, with_left, generalized, by_cases}
+use Rattle.hol_derived.specs.Lemmas.{IsKnown, DischKnown, GenKnown, CasesKnown}
+use Rattle.hol_derived.specs.Rules.{conjunct1_of, conjunct2_of, mp_of, undisch_of, disch_of, not_intro_of, disj1_of, disj2_of, contr_of, over_variable}
+use Rattle.hol_derived.specs.declared.lemma.Lemma.TheVariants.{EqtIntro, Both, Conj, Conjunct1, Conjunct2, Mp, Disch, Disj1, Disj2, Contr, NotIntro, EqfIntro}
+use Rattle.hol_derived.proofs.Connected.{operands_typed, operands_found, operands_are}
+use Rattle.hol_derived.proofs.Derivations.{conj_derived, conjunct1_derived, conjunct2_derived, mp_derived, undisch_derived, disch_derived, not_intro_derived, eqf_intro_derived, disj1_derived, disj2_derived, contr_derived, eqt_intro_derived}
+use Rattle.hol_derived.proofs.QuantifierDerivations.{gen_derived, cases_derived}
+use Rattle.hol_derived.proofs.Instances.{holds, refuted, gives_by}
+use Rattle.hol_derived.proofs.RuleAnswers.{mp_none, mp_other, mp_gives, disch_none, disch_gives, not_intro_none, not_intro_other, not_intro_gives, is_false, contr_other, contr_none, contr_gives, disj1_none, disj1_gives, disj2_none, disj2_gives}
 use Rattle.hol_derived.proofs.lemmas.Lemmas.for_each.Goals as goal
 
-pub under_truth-requires : goal.under_truth-requires
-under_truth-requires c =
-    record { one_basis = c.requires.one_basis; stands = c.requires.stands; absent = c.requires.absent }
-
-pub for_all-requires : goal.for_all-requires
-for_all-requires c =
-    rw c.in_ok-constant.ensures.gives record { one_basis = c.in_ok-constant.ensures.kept ∙ c.requires.one_basis; stands = c.requires.stands; is = refl }
+pub closed-requires : goal.closed-requires
+closed-requires c =
+    let B = c.args.a.now.basis in
+    let a = c.args.a.now.sequent in
+    let v = c.args.v.now in
+    let known : GenKnown B = subst (λ (k : Items). GenKnown k) c.requires.one_basis c.in_ok-establish_gen.ensures.established in
+    along_nameless B c.basis.result.now (a.hyps) c.in_ok-hyps.hyps (app (fixed (codes "!") (quantifier_type v.1)) (bind v a.concl)) c.in_ok-concl.concl c.basis.ensures
+    (c.in_ok-hyps.ensures ∙ c.hypotheses.ensures)
+    (ap (nameless []) c.in_ok-concl.ensures.is ∙ (λ i. universal (record { base = base_of v.0; domain = v.1; body = close_under [] v c.concl.result.now i })) ∙ ap (λ (n : Nameless). app (fixed (codes "!") (quantifier_type v.1)) (bind v n)) c.concl.ensures.concl)
+    (gen_derived B v a known c.requires.stands c.requires.absent c.promise.ensures.derives)
+    (c.in_ok-concl.ensures.typed)
 
 pub returns-clause-gives : goal.returns-clause-gives
 returns-clause-gives c =
-    let s = c.in_ok-constant.constant.sequent in
-    let every = app (fixed (codes "!") (quantifier_type c.args.v.now.1)) (lhs s.concl) in
-    became c.for_all.result (theorem_on c.in_ok-constant.constant.basis (sequent_of s.hyps every)) (theorem_on c.args.a.now.basis (generalized c.args.v.now c.args.a.now.sequent)) c.for_all.ensures.gives
-    (rw c.in_ok-constant.ensures.gives refl)
+    let B = c.args.a.now.basis in
+    let a = c.args.a.now.sequent in
+    let v = c.args.v.now in
+    let hs : c.in_ok-hyps.hyps ≡ a.hyps = c.in_ok-hyps.ensures ∙ c.hypotheses.ensures in
+    let is : nameless [] c.in_ok-concl.concl ≡ app (fixed (codes "!") (quantifier_type v.1)) (bind v a.concl) = ap (nameless []) c.in_ok-concl.ensures.is ∙ (λ i. universal (record { base = base_of v.0; domain = v.1; body = close_under [] v c.concl.result.now i })) ∙ ap (λ (n : Nameless). app (fixed (codes "!") (quantifier_type v.1)) (bind v n)) c.concl.ensures.concl in
+    became c.closed.result (theorem_over c.basis.result.now c.in_ok-hyps.hyps (nameless [] c.in_ok-concl.concl)) (theorem_on B (generalized v a)) c.closed.ensures
+    ((λ i. theorem_over (c.basis.ensures i) (hs i) (is i)))

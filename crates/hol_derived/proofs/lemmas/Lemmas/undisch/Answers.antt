@@ -1,59 +1,69 @@
-use Rattle.std.proofs.Common.{◌≡◌, ap, sym, ◌∙◌, subst, [], Some, refl, codes}
+use Rattle.std.proofs.Common.{◌≡◌, ap, sym, ◌∙◌, subst, List, [], ◌∷◌, Some, refl, codes, true, false}
+use Rattle.std.specs.Prelude.{None, ℕ}
 use Rattle.std.specs.FinSet as set
-use Rattle.hol_terms.specs.Nameless.{Nameless, nameless}
-use Rattle.hol_terms.specs.Alpha.{strip}
-use Rattle.hol_formulas.specs.Equation.{bool_type}
-use Rattle.hol_formulas.specs.Formula.{implication, equivalence, connective_type, dest_imp}
-use Rattle.hol_kernel.specs.Sequent.{only_hyp, sequent_of, Hyps}
-use Rattle.hol_kernel.specs.Theorem.{Theorem, theorem_on, over}
-use Rattle.hol_kernel.specs.Typing.{HasType}
-use Rattle.hol_formulas.proofs.FormulaLaws.{dest_binary_is}
-use Rattle.hol_equal.specs.Applied as made
-use Rattle.hol_derived.proofs.Chains.{eq_mp_fits, followed}
-use Rattle.hol_derived.proofs.Connected.{operands_typed}
-use Rattle.hol_derived.proofs.Instances.{typed_at, refuted, gives_by}
-use Rattle.hol_derived.proofs.LemmaHypotheses.{swapped}
 use Rattle.std.specs.Option.{option_map}
-use Rattle.hol_derived.specs.Rules.{undisch_of}
+use Rattle.hol_types.specs.Tree.{TypeTree}
+use Rattle.hol_types.specs.Fun.{fun_type}
+use Rattle.hol_terms.specs.Named.{named_type}
+use Rattle.hol_terms.specs.Nameless.{Nameless, nameless, fixed, app}
+use Rattle.hol_terms.specs.Alpha.{strip, alpha_eq}
+use Rattle.hol_terms.proofs.Alpha.{alpha_eq_decides}
+use Rattle.hol_subst.specs.Closing.{bind}
+use Rattle.hol_subst.proofs.Closing.{close_under}
+use Rattle.hol_formulas.specs.Equation.{bool_type}
+use Rattle.hol_formulas.specs.Formula.{truth, falsity, negation, conjunction, disjunction, implication, equivalence, connective_type, negation_type, quantifier_type, is_falsity, dest_conj, dest_disj, dest_imp, dest_neg, universal}
+use Rattle.hol_formulas.proofs.FormulaLaws.{dest_binary_is, dest_unary_is}
+use Rattle.hol_kernel.specs.Items.{Items}
+use Rattle.hol_kernel.specs.Sequent.{Hyps, only_hyp, sequent_of}
+use Rattle.hol_kernel.specs.Theorem.{theorem_on, theorem_over, over}
+use Rattle.hol_kernel.specs.Typing.{HasType, has_type}
+use Rattle.hol_kernel.proofs.Declared.{has_type_is}
+use Rattle.hol_kernel.proofs.InstRules.{along_nameless}
+use Rattle.hol_kernel.proofs.Sound.{second_over}
+use Rattle.hol_equal.proofs.Outcomes.{became}
+use Rattle.hol_equal.specs.Applied.{lhs, rhs, rand}
+use Rattle.hol_derived.specs.Applied.{first_conjunct, second_conjunct, negated, false_of, discharged, with_right, with_left, generalized, by_cases}
+use Rattle.hol_derived.specs.Lemmas.{IsKnown, DischKnown, GenKnown, CasesKnown}
+use Rattle.hol_derived.specs.Rules.{conjunct1_of, conjunct2_of, mp_of, undisch_of, disch_of, not_intro_of, disj1_of, disj2_of, contr_of, over_variable}
+use Rattle.hol_derived.specs.declared.lemma.Lemma.TheVariants.{EqtIntro, Both, Conj, Conjunct1, Conjunct2, Mp, Disch, Disj1, Disj2, Contr, NotIntro, EqfIntro}
+use Rattle.hol_derived.proofs.Connected.{operands_typed, operands_found, operands_are}
+use Rattle.hol_derived.proofs.Derivations.{conj_derived, conjunct1_derived, conjunct2_derived, mp_derived, undisch_derived, disch_derived, not_intro_derived, eqf_intro_derived, disj1_derived, disj2_derived, contr_derived, eqt_intro_derived}
+use Rattle.hol_derived.proofs.QuantifierDerivations.{gen_derived, cases_derived}
+use Rattle.hol_derived.proofs.Instances.{holds, refuted, gives_by}
+use Rattle.hol_derived.proofs.RuleAnswers.{mp_none, mp_other, mp_gives, disch_none, disch_gives, not_intro_none, not_intro_other, not_intro_gives, is_false, contr_other, contr_none, contr_gives, disj1_none, disj1_gives, disj2_none, disj2_gives}
 use Rattle.hol_derived.proofs.lemmas.Lemmas.undisch.Goals as goal
 
 pub unreachable-requires : goal.unreachable-requires
 unreachable-requires c =
-    let A = c.args.a.now.basis in
+    let B = c.args.a.now.basis in
     let a = c.args.a.now.sequent in
-    refuted (over A (undisch_of a)) c.requires.applies (ap (λ o. over A (option_map (λ x. sequent_of (set.union a.hyps (only_hyp x.0)) x.1) o)) (ap dest_imp (sym c.concl.ensures.concl) ∙ c.in_default.ensures.parts))
+    refuted (over B (undisch_of a)) c.requires.applies (ap (λ o. over B (option_map (λ x. sequent_of (set.union a.hyps (only_hyp x.0)) x.1) o)) (ap dest_imp (sym c.concl.ensures.concl) ∙ c.in_default.ensures.parts))
 
-pub instance-requires : goal.instance-requires
-instance-requires c =
-    let A = c.args.a.now.basis in
+pub closed-requires : goal.closed-requires
+closed-requires c =
+    let B = c.args.a.now.basis in
     let a = c.args.a.now.sequent in
     let p = nameless [] c.in-Some.p.now in
     let q = nameless [] c.in-Some.q.now in
     let found : dest_imp a.concl ≡ Some (p, q) = ap dest_imp (sym c.concl.ensures.concl) ∙ c.in-Some.ensures.parts in
-    let is : a.concl ≡ implication p q = dest_binary_is (codes "==>") connective_type a.concl (p, q) found in
-    let typed : HasType A p bool_type × HasType A q bool_type = operands_typed A (codes "==>") p q bool_type (subst (λ (u : Nameless). HasType A u bool_type) is c.well_typed.ensures.conclusion) in
-    record { first = typed_at c.args.self.now A p p c.requires.one_basis refl typed.0; second = typed_at c.args.self.now A q q c.requires.one_basis refl typed.1 }
-
-pub eq_mp-requires : goal.eq_mp-requires
-eq_mp-requires c =
-    let A = c.args.a.now.basis in
-    let a = c.args.a.now.sequent in
-    let p = nameless [] c.in-Some.p.now in
-    let q = nameless [] c.in-Some.q.now in
-    let found : dest_imp a.concl ≡ Some (p, q) = ap dest_imp (sym c.concl.ensures.concl) ∙ c.in-Some.ensures.parts in
-    let is : a.concl ≡ implication p q = dest_binary_is (codes "==>") connective_type a.concl (p, q) found in
-    let equal : c.in_ok-equal.equal ≡ theorem_on A (sequent_of (only_hyp p) (equivalence (implication p q) q)) = c.in_ok-equal.ensures.is ∙ (λ i. theorem_on (c.requires.one_basis i) (sequent_of (only_hyp p) (equivalence (implication p q) q))) in
-    record { one_basis = ap (λ (th : Theorem). th.basis) equal; applies = eq_mp_fits A c.in_ok-equal.equal c.args.a.now (only_hyp p) a.hyps bool_type (implication p q) q a.concl (ap strip (sym is)) equal refl }
+    let parts : a.concl ≡ implication p q = dest_binary_is (codes "==>") connective_type a.concl (p, q) found in
+    let known : IsKnown B Mp = subst (λ (k : Items). IsKnown k Mp) c.requires.one_basis c.in_ok-establish.ensures.established in
+    let types = operands_typed B (codes "==>") p q bool_type (subst (λ (u : Nameless). HasType B u bool_type) parts c.well_typed.ensures.conclusion) in
+    along_nameless B c.basis.result.now (set.union a.hyps (only_hyp p)) c.in_ok-hyps.hyps (q) c.in_ok-concl.concl c.basis.ensures
+    (c.in_ok-hyps.ensures ∙ (λ i. set.union (c.hypotheses.ensures i) (c.in_ok-assumed.ensures i)))
+    (ap (nameless []) c.in_ok-concl.ensures)
+    (undisch_derived B p q types.0 types.1 a known parts c.promise.ensures.derives)
+    (ap named_type c.in_ok-concl.ensures ∙ c.in-Some.ensures.second)
 
 pub returns-clause-gives : goal.returns-clause-gives
 returns-clause-gives c =
-    let A = c.args.a.now.basis in
+    let B = c.args.a.now.basis in
     let a = c.args.a.now.sequent in
     let p = nameless [] c.in-Some.p.now in
     let q = nameless [] c.in-Some.q.now in
     let found : dest_imp a.concl ≡ Some (p, q) = ap dest_imp (sym c.concl.ensures.concl) ∙ c.in-Some.ensures.parts in
-    let is : a.concl ≡ implication p q = dest_binary_is (codes "==>") connective_type a.concl (p, q) found in
-    let equal : c.in_ok-equal.equal ≡ theorem_on A (sequent_of (only_hyp p) (equivalence (implication p q) q)) = c.in_ok-equal.ensures.is ∙ (λ i. theorem_on (c.requires.one_basis i) (sequent_of (only_hyp p) (equivalence (implication p q) q))) in
-    gives_by c.eq_mp.result (theorem_on c.in_ok-equal.equal.basis (made.concluded c.in_ok-equal.equal.sequent a)) A (undisch_of a) (sequent_of (set.union a.hyps (only_hyp p)) q) c.eq_mp.ensures
-    (followed A c.in_ok-equal.equal c.args.a.now (only_hyp p) a.hyps bool_type (implication p q) q a.concl (ap strip (sym is)) equal refl ∙ ap (λ (hs : Hyps). theorem_on A (sequent_of hs q)) (swapped (only_hyp p) a.hyps))
-    (ap (option_map (λ x. sequent_of (set.union a.hyps (only_hyp x.0)) x.1)) found)
+    let parts : a.concl ≡ implication p q = dest_binary_is (codes "==>") connective_type a.concl (p, q) found in
+    let hs : c.in_ok-hyps.hyps ≡ set.union a.hyps (only_hyp p) = c.in_ok-hyps.ensures ∙ (λ i. set.union (c.hypotheses.ensures i) (c.in_ok-assumed.ensures i)) in
+    let is : nameless [] c.in_ok-concl.concl ≡ q = ap (nameless []) c.in_ok-concl.ensures in
+    gives_by c.closed.result (theorem_over c.basis.result.now c.in_ok-hyps.hyps (nameless [] c.in_ok-concl.concl)) B (undisch_of a) (sequent_of (set.union a.hyps (only_hyp p)) q) c.closed.ensures
+    (λ i. theorem_over (c.basis.ensures i) (hs i) (is i)) (ap (option_map (λ x. sequent_of (set.union a.hyps (only_hyp x.0)) x.1)) found)

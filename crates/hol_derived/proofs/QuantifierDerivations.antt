@@ -1,0 +1,84 @@
+-- Derivations of the rules of quantifiers and of DISJ_CASES, from those of the general theorems.
+use Rattle.std.specs.Prelude.{◌≡◌, ◌&&◌, true, false, ℕ, List, [], ◌∷◌, codes, refl}
+use Rattle.std.specs.FinSet as set
+use Rattle.std.proofs.Common.{ap, sym, ◌∙◌, subst}
+use Rattle.hol_types.specs.Tree.{TypeTree}
+use Rattle.hol_types.specs.Fun.{fun_type}
+use Rattle.hol_terms.specs.Nameless.{Nameless, fixed, app}
+use Rattle.hol_terms.specs.Alpha.{strip}
+use Rattle.hol_subst.specs.Closing.{bind}
+use Rattle.hol_subst.specs.Substitution.{term_subst, types_inst}
+use Rattle.hol_subst.specs.Variant.{is_free_in}
+use Rattle.hol_formulas.specs.Equation.{bool_type, equation}
+use Rattle.hol_formulas.specs.Formula.{quantifier_type, truth, disjunction, implication, equivalence}
+use Rattle.hol_formulas.specs.Prelude.{boolean}
+use Rattle.hol_formulas.proofs.EquationTypes.{type_eq_itself}
+use Rattle.hol_kernel.specs.Items.{Items}
+use Rattle.hol_kernel.specs.Sequent.{Hyps, no_hyps, only_hyp, hyps_image, Sequent, sequent_of}
+use Rattle.hol_kernel.specs.Theorem.{theorem_on, theorem_over}
+use Rattle.hol_kernel.specs.Typing.{HasType, is_type, is_type_at}
+use Rattle.hol_kernel.specs.Derivation.{Derives, by_abs, by_inst, by_inst_type}
+use Rattle.hol_kernel.proofs.Sound.{Derived}
+use Rattle.hol_kernel.proofs.WellTyped.{sides_typed, theorem_typed}
+use Rattle.hol_derived.specs.Applied.{constantly_true}
+use Rattle.hol_derived.specs.Lemmas.{general, put_predicate, put_at, IsKnown, DischKnown, GenKnown, CasesKnown}
+use Rattle.hol_derived.specs.Unfolded.{either}
+use Rattle.hol_derived.specs.declared.lemma.Lemma.{Lemma}
+use Rattle.hol_derived.specs.declared.lemma.Lemma.TheVariants.{Gen, DisjCases}
+use Rattle.hol_derived.proofs.Connected.{operands_typed, typed_whole}
+use Rattle.hol_derived.proofs.Derivations.{from_one, from_equivalence, disch_derived, mp_derived, eqt_intro_derived}
+use Rattle.hol_derived.proofs.Instances.{cases_are, generalization_is, put_three}
+
+module _ (items : Items) where
+  -- what has a derivation is a formula
+  formula : (hs : Hyps) (p : Nameless) → Derives items hs p → HasType items p bool_type
+  formula hs p d = (theorem_typed (theorem_over items hs p) d).conclusion
+
+  -- ---- GEN
+
+  -- a general theorem has a derivation at each predicate
+  pub at_predicate : (a : TypeTree) (f : Nameless) (which : Lemma) → is_type items a ≡ true → HasType items f (fun_type a bool_type) → IsKnown items which → Derived items (put_predicate a f (general which))
+  at_predicate a f which stands typed known =
+      let types : List (TypeTree × List ℕ) = (a, codes "A") ∷ [] in
+      by_inst (hyps_image (types_inst types) (general which).hyps) (types_inst types (general which).concl) ((f, (codes "P", fun_type a bool_type)) ∷ [])
+      ((λ i. is_type_at (typed i) (fun_type a bool_type) && true) ∙ ap (λ k. k && true) (type_eq_itself (fun_type a bool_type)))
+      (by_inst_type (general which).hyps (general which).concl types (λ i. stands i && true) known.derives)
+
+  pub gen_derived : (v : List ℕ × TypeTree) (a : Sequent) → GenKnown items → is_type items v.1 ≡ true → is_free_in (set.items a.hyps) v ≡ false → Derived items a → Derives items a.hyps (app (fixed (codes "!") (quantifier_type v.1)) (bind v a.concl))
+  gen_derived v a known stands absent d =
+      let p = a.concl in
+      let f = bind v p in
+      let own : HasType items p bool_type = formula a.hyps p d in
+      let proved : Derives items a.hyps (equivalence p truth) = eqt_intro_derived items p p own own a known.proved refl d in
+      let under : Derives items a.hyps (equation (fun_type v.1 bool_type) f (bind v truth)) = by_abs a.hyps bool_type v p truth stands absent proved in
+      let typed : HasType items f (fun_type v.1 bool_type) = (sides_typed items (fun_type v.1 bool_type) bool_type f (bind v truth) (formula a.hyps (equation (fun_type v.1 bool_type) f (bind v truth)) under)).0 in
+      let constant = equation (fun_type v.1 bool_type) f (constantly_true v.1) in
+      let every = app (fixed (codes "!") (quantifier_type v.1)) f in
+      let rule : Derives items no_hyps (equivalence constant every) =
+      subst (Derived items) (generalization_is v.1 f (typed_whole items f (fun_type v.1 bool_type) typed)) (at_predicate v.1 f Gen stands typed known.every) in
+      from_equivalence items constant every (sequent_of a.hyps (equation (fun_type v.1 bool_type) f (bind v truth))) rule refl under
+
+  -- ---- DISJ_CASES
+
+  module _ (p q r : Nameless) (first : HasType items p bool_type) (second : HasType items q bool_type) (third : HasType items r bool_type) where
+    at_three : IsKnown items DisjCases → Derives items (only_hyp (disjunction p q)) (either p q r)
+    at_three known =
+        subst (Derived items) (cases_are p q r (typed_whole items p bool_type first) (typed_whole items q bool_type second) (typed_whole items r bool_type third))
+        (by_inst (general DisjCases).hyps (general DisjCases).concl ((p, boolean (codes "p")) ∷ (q, boolean (codes "q")) ∷ (r, boolean (codes "r")) ∷ [])
+        (λ i. is_type_at (first i) bool_type && (is_type_at (second i) bool_type && (is_type_at (third i) bool_type && true))) known.derives)
+
+    pub cases_derived :
+        (a : Sequent) (bs cs : Hyps) (s : Nameless) → CasesKnown items → a.concl ≡ disjunction p q → strip r ≡ strip s → Derived items a → Derives items bs r → Derives items cs s →
+        Derives items (set.union (set.union a.hyps (set.remove bs (strip p))) (set.remove cs (strip q))) r
+    cases_derived a bs cs s known is same d e f =
+        let fourth : HasType items s bool_type = formula cs s f in
+        let one = implication p r in
+        let rest = implication (implication q r) r in
+        let ways : Derives items a.hyps (implication one rest) = from_one items (disjunction p q) (implication one rest) a (at_three known.cases) (ap strip (sym is)) d in
+        let types = operands_typed items (codes "==>") one rest bool_type (formula a.hyps (implication one rest) ways) in
+        let inner = operands_typed items (codes "==>") (implication q r) r bool_type types.1 in
+        let way : Derives items (set.remove bs (strip p)) one = disch_derived items p r first third bs known.disch.both known.disch.first known.disch.implied e in
+        let left : Derives items (set.union a.hyps (set.remove bs (strip p))) rest =
+        mp_derived items one rest types.0 types.1 (sequent_of a.hyps (implication one rest)) (sequent_of (set.remove bs (strip p)) one) known.mp refl refl ways way in
+        let other : Derives items (set.remove cs (strip q)) (implication q s) = disch_derived items q s second fourth cs known.disch.both known.disch.first known.disch.implied f in
+        mp_derived items (implication q r) r inner.0 third (sequent_of (set.union a.hyps (set.remove bs (strip p))) rest) (sequent_of (set.remove cs (strip q)) (implication q s)) known.mp refl (ap (λ (t : Nameless). implication (strip q) t) same) left other
