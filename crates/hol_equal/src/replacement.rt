@@ -1,7 +1,8 @@
 //! Replacement of equals, for callers that know that the rule applies.
-ghost use Rattle.std.specs.Prelude.{◌≡◌, IfOk, [], true};
+ghost use Rattle.std.specs.Prelude.{◌≡◌, IfOk, Some, []};
 ghost use Rattle.hol_types.specs.Fun.{fun_type};
 ghost use Rattle.hol_terms.specs.Nameless.{nameless, app};
+ghost use Rattle.hol_terms.specs.Named.{named_type};
 ghost use Rattle.hol_terms.specs.Alpha.{strip};
 ghost use Rattle.hol_subst.specs.Closing.{bind};
 ghost use Rattle.hol_formulas.specs.Equation.{bool_type, equation};
@@ -12,11 +13,23 @@ ghost use Rattle.hol_equal.specs.Applied.{lhs, rhs, replaced, substituted};
 ghost use Rattle.hol_equal.specs.Rules.{m_with};
 
 use crate::applied::{ap_term, beta_conv, eq_mp, known_sides, sym, trans};
-use hol_formulas::bool_type;
+use hol_formulas::{bool_type, occurrence};
 use hol_kernel::{Basis, Thm};
+use hol_subst::vsubst_good;
 use hol_terms::{Term, Variable};
 use hol_types::Ty;
 use std::alloc::{AllocError, Global};
+
+/// `m` with `r` for `v`.
+pub(crate) fn m_with(alloc: Global, r: &Term, v: &Variable, m: &Term) -> Result<Term, AllocError>
+    requires fits { named_type r.now ≡ Some v.now.1 }
+    ensures { IfOk result (λ t. nameless [] t ≡ m_with (nameless [] r.now) v.now (nameless [] m.now)) }
+{
+    let own = occurrence(alloc, v)?;
+    let mut pairs = Vec::new(alloc);
+    pairs.push((r.copy()?, own))?;
+    vsubst_good(alloc, &pairs, m)
+}
 
 // `(\v. m) r = m` with `r` for `v`; `f` is the abstraction, of a formula.
 fn image(
