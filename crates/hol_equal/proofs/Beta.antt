@@ -13,7 +13,7 @@ use Rattle.hol_terms.specs.Alpha.{strip}
 use Rattle.hol_terms.specs.Scoped.{binds}
 use Rattle.hol_terms.proofs.Same.{variable_eq_decides}
 use Rattle.hol_terms.proofs.Typing.{type_outside}
-use Rattle.hol_subst.specs.Closing.{close, bind, open_with}
+use Rattle.hol_subst.specs.Closing.{close, bind}
 use Rattle.hol_subst.specs.Shift.{shift}
 use Rattle.hol_subst.specs.Substitution.{term_subst}
 use Rattle.hol_subst.specs.Laws.{IsUntouched}

@@ -4,6 +4,7 @@ pub mod Typings
 pub mod Applies
 pub mod HypSets
 pub mod Beta
+pub mod Operators
 pub mod Answered
 pub mod RuleLaws
 pub mod Abstractions

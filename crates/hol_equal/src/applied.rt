@@ -150,8 +150,16 @@ pub fn ap_thm(alloc: Global, a: &Thm, ty: &Ty, x: &Term) -> Result<Thm, AllocErr
     requires applies { mk_comb_of a.now.sequent (reflexive (nameless [] x.now) ty.now) ≡ Some (combined a.now.sequent (reflexive (nameless [] x.now) ty.now)) }
     ensures { IfOk result (λ th. th ≡ theorem_on a.now.basis (at_argument (nameless [] x.now) a.now.sequent)) }
 {
-    let same = refl(alloc, a.basis(), ty, x)?;
-    mk_comb(alloc, a, &same)
+    a.promise();
+    let sides = known_sides(a);
+    let Some((_domain, range)) = sides.ty.dest_fun() else {
+        unreachable!()
+    };
+    let left = Term::application_to(alloc, sides.left, x, range)?;
+    let right = Term::application_to(alloc, sides.right, x, range)?;
+    let concl = a.basis().equation(alloc, range, &left, &right)?;
+    let hyps = a.hypotheses().copy()?;
+    Thm::closed(a.basis(), hyps, concl)
 }
 
 /// PROVE_HYP: from `A |- p` and `B |- q`, `A u (B - p) |- q`.

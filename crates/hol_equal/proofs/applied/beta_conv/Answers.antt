@@ -6,7 +6,7 @@ use Rattle.hol_subst.specs.Closing.{bind}
 use Rattle.hol_subst.proofs.Closing.{closed_named}
 use Rattle.hol_formulas.specs.Equation.{equation}
 use Rattle.hol_kernel.specs.Typing.{HasType}
-use Rattle.hol_kernel.specs.Sequent.{no_hyps, sequent_of}
+use Rattle.hol_kernel.specs.Sequent.{no_hyps}
 use Rattle.hol_kernel.specs.Theorem.{theorem_on, theorem_over}
 use Rattle.hol_kernel.proofs.InstRules.{along_nameless}
 use Rattle.hol_kernel.proofs.Variables.{known_typed}

@@ -2,7 +2,7 @@ use Rattle.std.proofs.Common.{◌≡◌, subst, [], ◌∷◌, rules}
 use Rattle.std.specs.Prelude.{List, IfOk}
 use Rattle.hol_terms.specs.Named.{Named, var}
 use Rattle.hol_terms.specs.Nameless.{nameless}
-use Rattle.hol_subst.specs.Pairs.{HasBadPair, nameless_pairs}
+use Rattle.hol_subst.specs.Pairs.{nameless_pairs}
 use Rattle.hol_subst.specs.Substitution.{term_subst}
 use Rattle.hol_equal.proofs.Replaced.{good_alone}
 use Rattle.hol_equal.proofs.replacement.m_with.Goals as goal
