@@ -79,7 +79,7 @@ module _ (basis : Items) (v : List ℕ × TypeTree) (n r : Nameless) (a : TypeTr
   pub argument_typed : HasType basis r v.1
   argument_typed = parts.argument ∙ ap Some own.domain
 
-  pub general_typed : HasType basis (app (bind v n) (free v)) a
+  general_typed : HasType basis (app (bind v n) (free v)) a
   general_typed = applied_typed basis v.1 a (bind v n) (free v) (subst (λ (d : TypeTree). HasType basis (bind v n) (fun_type d a)) own.domain parts.function) (variable_typed basis v own.stands)
 
   put : Nameless → Nameless

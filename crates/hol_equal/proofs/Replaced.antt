@@ -46,14 +46,6 @@ module _ (basis : Items) (a : Sequent) (v : List ℕ × TypeTree) (m : Nameless)
         by true = refl
         by false = refl
 
-    pub subst_other : alpha_eq (m_with l v m) b.concl ≡ false → subst_of basis a (var v) m b ≡ None
-    subst_other g = subst_test (type_eq v.1 s) (has_type basis m bool_type) false refl refl g ∙ by (type_eq v.1 s) (has_type basis m bool_type)
-      where
-        by : (i j : Bool) → cond (i && (j && false)) (Some (sequent_of (set.union a.hyps b.hyps) (m_with r v m))) None ≡ None
-        by true true = refl
-        by true false = refl
-        by false j = refl
-
     pub subst_gives : type_eq v.1 s ≡ true → has_type basis m bool_type ≡ true → alpha_eq (m_with l v m) b.concl ≡ true → subst_of basis a (var v) m b ≡ Some (sequent_of (set.union a.hyps b.hyps) (m_with r v m))
     subst_gives e f g = subst_test true true true e f g
 

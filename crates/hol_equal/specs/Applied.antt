@@ -103,9 +103,6 @@ reduct t = open_with (rand t) 0 (body (rator t))
 abbrev pub contraction : TypeTree → Nameless → Sequent
 contraction s t = sequent_of no_hyps (equation s t (reduct t))
 
--- SUBST: the sides of the equation for v in m, and m with the right side
-abbrev pub replaced : List ℕ × TypeTree → Nameless → Sequent → Sequent
-replaced v m a = sequent_of a.hyps (equation bool_type (m_with (lhs a.concl) v m) (m_with (rhs a.concl) v m))
-
+-- SUBST: m with the right side for v
 abbrev pub substituted : List ℕ × TypeTree → Nameless → Sequent → Sequent → Sequent
 substituted v m a b = sequent_of (set.union a.hyps b.hyps) (m_with (rhs a.concl) v m)

@@ -8,7 +8,7 @@ use Rattle.hol_kernel.specs.Theorem.{theorem_on, theorem_over}
 use Rattle.hol_kernel.proofs.InstRules.{along_nameless}
 use Rattle.hol_kernel.proofs.Variables.{known_typed}
 use Rattle.hol_equal.specs.Applied.{at_argument}
-use Rattle.hol_equal.proofs.Operators.{at_argument_is, at_argument_derived, at_argument_typed}
+use Rattle.hol_equal.proofs.AtArgument.{at_argument_is, at_argument_derived, at_argument_typed}
 use Rattle.hol_equal.proofs.Outcomes.{became}
 use Rattle.hol_equal.proofs.applied.ap_thm.Goals as goal
 
