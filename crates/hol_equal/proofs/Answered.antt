@@ -24,12 +24,9 @@ use Rattle.hol_equal.specs.Applied.{symmetric, combined, under, at_argument, con
 use Rattle.hol_equal.specs.Rules.{reversed, sym_of, at_sides, ap_term_of, sides_at, ap_thm_of, beta_conv_of, alpha_of}
 use Rattle.hol_equal.proofs.Applies.{sides, mk_comb_yes}
 
--- a rule that gives a sequent gives its theorem, and one that gives none none
+-- a rule that gives a sequent gives its theorem
 pub gives : (basis : Items) (o : Option Sequent) (s : Sequent) (th : Theorem) → o ≡ Some s → th ≡ theorem_on basis s → over basis o ≡ Some th
 gives basis o s th is given = ap (over basis) is ∙ ap Some (sym given)
-
-pub none : (basis : Items) (o : Option Sequent) → o ≡ None → over basis o ≡ None
-none basis o is = ap (over basis) is
 
 pub sym_applies : (a : Sequent) (s : TypeTree) (l r : Nameless) → a.concl ≡ equation s l r → sym_of a ≡ Some (symmetric a)
 sym_applies a s l r is = rw is (ap (option_map (reversed a.hyps)) (dest_eq_equation s l r))

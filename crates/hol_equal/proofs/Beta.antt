@@ -1,4 +1,4 @@
--- BETA_CONV from BETA: the abstraction is applied to its own variable, for which the argument is substituted then.
+-- BETA_CONV: BETA of the abstraction at its own variable, and INST of the argument for it.
 use Rattle.std.specs.Prelude.{◌≡◌, ℕ, Bool, true, false, cond, ◌&&◌, List, [], ◌∷◌, map, Option, Some, None, unwrap_or, is_some, refl}
 use Rattle.std.specs.Option.{option_map}
 use Rattle.std.specs.FinSet as set
@@ -13,26 +13,30 @@ use Rattle.hol_terms.specs.Alpha.{strip}
 use Rattle.hol_terms.specs.Scoped.{binds}
 use Rattle.hol_terms.proofs.Same.{variable_eq_decides}
 use Rattle.hol_terms.proofs.Typing.{type_outside}
-use Rattle.hol_subst.specs.Closing.{open_with}
+use Rattle.hol_subst.specs.Closing.{close, bind}
 use Rattle.hol_subst.specs.Shift.{shift}
 use Rattle.hol_subst.specs.Substitution.{term_subst}
 use Rattle.hol_subst.specs.Laws.{IsUntouched}
-use Rattle.hol_subst.proofs.Closing.{eq_same, closed_named, shift_whole, nameless_abs, close_binds, close_under, open_close}
+use Rattle.hol_subst.proofs.Closing.{IsClosed, eq_same, closed_named, shift_whole, nameless_abs, close_binds, open_close}
 use Rattle.hol_subst.proofs.Composition.{subst_untouched}
 use Rattle.hol_subst.proofs.Opening.{open_close_subst}
 use Rattle.hol_subst.proofs.Typing.{mapped_part}
-use Rattle.hol_formulas.specs.Equation.{equation}
+use Rattle.hol_formulas.specs.Equation.{bool_type, equation}
 use Rattle.hol_formulas.proofs.EquationTypes.{type_eq_itself}
 use Rattle.hol_kernel.specs.Items.{Items}
-use Rattle.hol_kernel.specs.Sequent.{no_hyps, hyps_image, sequent_of}
+use Rattle.hol_kernel.specs.Sequent.{Hyps, no_hyps, hyps_image, sequent_of}
 use Rattle.hol_kernel.specs.Typing.{is_base, is_type, is_type_at, is_known, HasType}
-use Rattle.hol_kernel.specs.Rules.{sequent_image, beta_of, are_pairs_over, inst_of}
+use Rattle.hol_kernel.specs.Rules.{beta_of}
+use Rattle.hol_kernel.specs.Derivation.{Derives, by_beta, by_inst}
+use Rattle.hol_kernel.specs.Theorem.{theorem_over}
 use Rattle.hol_kernel.proofs.HypothesisLists.{hyps_total}
 use Rattle.hol_kernel.proofs.Sets.{items_empty}
 use Rattle.hol_kernel.proofs.Stands.{both, some_is}
 use Rattle.hol_kernel.proofs.TermRules.{beta_gives}
 use Rattle.hol_kernel.proofs.Variables.{known_typed, variable_typed}
-use Rattle.hol_equal.specs.Applied.{contraction, own_contraction}
+use Rattle.hol_kernel.proofs.WellTyped.{sides_typed, theorem_typed}
+use Rattle.hol_equal.specs.Applied.{reduct, contraction}
+use Rattle.hol_equal.specs.Rules.{m_with}
 use Rattle.hol_equal.proofs.Typings.{AreParts, parts_typed, applied_typed}
 
 -- no hypotheses stay none
@@ -64,73 +68,68 @@ bound_stays v r n absent = subst_untouched ((r, v) ∷ []) 0 n untouched
     untouched : IsUntouched ((r, v) ∷ []) n
     untouched w f = by w (variable_eq v w) refl f
 
-module _ (basis : Items) (v : List ℕ × TypeTree) (b x : Named) (a : TypeTree) (typed : HasType basis (nameless [] (comb (abs v b) x)) a) where
-  f : Nameless
-  f = nameless [] (abs v b)
-
-  redex : Nameless
-  redex = nameless [] (comb (abs v b) x)
-
-  general : Named
-  general = comb (abs v b) (var v)
-
-  parts : AreParts basis f (nameless [] x) a
-  unfolding f
-  parts = parts_typed basis f (nameless [] x) a typed
+-- for the abstraction of v in n, and the argument r
+module _ (basis : Items) (v : List ℕ × TypeTree) (n r : Nameless) (a : TypeTree) (closed : IsClosed 0 r) (typed : HasType basis (app (bind v n) r) a) where
+  parts : AreParts basis (bind v n) r a
+  parts = parts_typed basis (bind v n) r a typed
 
   own : IsFunction basis v parts.domain
-  unfolding f
-  own = function_is basis v (nameless (v ∷ []) b) parts.domain a parts.function
+  own = function_is basis v (close v 0 n) parts.domain a parts.function
 
-  argument : HasType basis (nameless [] x) v.1
-  argument = parts.argument ∙ ap Some own.domain
+  pub argument_typed : HasType basis r v.1
+  argument_typed = parts.argument ∙ ap Some own.domain
 
-  general_typed : HasType basis (nameless [] general) a
-  unfolding f general
-  general_typed = applied_typed basis v.1 a f (free v) (subst (λ (d : TypeTree). HasType basis f (fun_type d a)) own.domain parts.function) (variable_typed basis v own.stands)
+  general_typed : HasType basis (app (bind v n) (free v)) a
+  general_typed = applied_typed basis v.1 a (bind v n) (free v) (subst (λ (d : TypeTree). HasType basis (bind v n) (fun_type d a)) own.domain parts.function) (variable_typed basis v own.stands)
 
-  general_fits : named_type general ≡ Some a
-  unfolding general
-  general_fits = sym (type_outside general) ∙ (known_typed basis (nameless [] general) a general_typed).1
+  put : Nameless → Nameless
+  put = term_subst ((r, v) ∷ []) 0
 
-  pub beta_fits : named_type (comb (abs v b) (var v)) ≡ None → ⊥
-  unfolding general
-  beta_fits none = let same : Some a ≡ None = sym general_fits ∙ none in absurd (cc)
+  function_stays : put (bind v n) ≡ bind v n
+  unfolding put
+  function_stays = bound_stays v r (bind v n) (close_binds v 0 n)
 
-  pub beta_is : beta_of basis (comb (abs v b) (var v)) ≡ Some (own_contraction a v b)
-  unfolding general
-  beta_is = beta_gives basis general v v b a refl general_fits (eq_same v) (ap is_some general_typed)
+  variable_becomes : put (free v) ≡ r
+  unfolding put
+  variable_becomes = ap (λ k. shift 0 0 (unwrap_or (cond k (Some r) None) (free v))) (eq_same v) ∙ shift_whole 0 0 r closed
+
+  general_derived : Derives basis no_hyps (equation a (app (bind v n) (free v)) n)
+  general_derived =
+      subst (λ (t : Nameless). Derives basis no_hyps (equation a (app (bind v n) (free v)) t)) (open_close v 0 n)
+      (by_beta a v (close v 0 n) general_typed (close_binds v 0 n))
+
+  pub image_derived : Derives basis no_hyps (equation a (app (bind v n) r) (m_with r v n))
+  unfolding put
+  image_derived =
+      let fits = (λ i. is_type_at (argument_typed i) v.1 && true) ∙ ap (λ k. k && true) (type_eq_itself v.1) in
+      let whole = by_inst no_hyps (equation a (app (bind v n) (free v)) n) ((r, v) ∷ []) fits general_derived in
+      subst (λ (hs : Hyps). Derives basis hs (equation a (app (bind v n) r) (m_with r v n))) (image_none put)
+      (subst (λ (t : Nameless). Derives basis (hyps_image put no_hyps) (equation a t (m_with r v n))) (λ i. app (function_stays i) (variable_becomes i)) whole)
+
+  pub image_typed : HasType basis (m_with r v n) a
+  image_typed = (sides_typed basis a bool_type (app (bind v n) r) (m_with r v n) (theorem_typed (theorem_over basis no_hyps (equation a (app (bind v n) r) (m_with r v n))) image_derived).conclusion).1
+
+  pub image_is : reduct (app (bind v n) r) ≡ m_with r v n
+  image_is = open_close_subst v r 0 n
+
+-- for a redex
+module _ (basis : Items) (v : List ℕ × TypeTree) (b x : Named) (a : TypeTree) (typed : HasType basis (nameless [] (comb (abs v b) x)) a) where
+  pub redex_is : nameless [] (comb (abs v b) x) ≡ app (bind v (nameless [] b)) (nameless [] x)
+  redex_is = ap (λ (f : Nameless). app f (nameless [] x)) (nameless_abs v b)
+
+  pub redex_typed : HasType basis (app (bind v (nameless [] b)) (nameless [] x)) a
+  redex_typed = subst (λ (t : Nameless). HasType basis t a) redex_is typed
+
+  own_typed : HasType basis (nameless [] (comb (abs v b) (var v))) a
+  own_typed = subst (λ (f : Nameless). HasType basis (app f (free v)) a) (sym (nameless_abs v b)) (general_typed basis v (nameless [] b) (nameless [] x) a (closed_named x) redex_typed)
+
+  own_fits : named_type (comb (abs v b) (var v)) ≡ Some a
+  own_fits = sym (type_outside (comb (abs v b) (var v))) ∙ (known_typed basis (nameless [] (comb (abs v b) (var v))) a own_typed).1
 
   -- at the variable itself, BETA gives it at once
   pub own_gives : x ≡ var v → beta_of basis (comb (abs v b) x) ≡ Some (contraction a (nameless [] (comb (abs v b) x)))
-  unfolding general
   own_gives e =
-      let stays : nameless [] b ≡ open_with (free v) 0 (nameless (v ∷ []) b) = sym (ap (open_with (free v) 0) (close_under [] v b) ∙ open_close v 0 (nameless [] b)) in
+      let general = comb (abs v b) (var v) in
+      let stays : nameless [] b ≡ reduct (nameless [] general) = sym (ap (λ (f : Nameless). reduct (app f (free v))) (nameless_abs v b) ∙ open_close v 0 (nameless [] b)) in
       subst (λ (y : Named). beta_of basis (comb (abs v b) y) ≡ Some (contraction a (nameless [] (comb (abs v b) y)))) (sym e)
-      (beta_is ∙ ap (λ n. Some (sequent_of no_hyps (equation a (nameless [] (comb (abs v b) (var v))) n))) stays)
-
-  pairs_fit : are_pairs_over basis ((x, var v) ∷ []) ≡ true
-  pairs_fit = (λ i. is_type_at (argument i) v.1 && true) ∙ ap (λ k. k && true) (type_eq_itself v.1)
-
-  put : Nameless → Nameless
-  put = term_subst ((nameless [] x, v) ∷ []) 0
-
-  function_stays : put f ≡ f
-  unfolding f put
-  function_stays = bound_stays v (nameless [] x) f (ap (λ (n : Nameless). binds (free_occurrences n) v) (nameless_abs v b) ∙ close_binds v 0 (nameless [] b))
-
-  variable_becomes : put (free v) ≡ nameless [] x
-  unfolding put
-  variable_becomes = ap (λ k. shift 0 0 (unwrap_or (cond k (Some (nameless [] x)) None) (free v))) (eq_same v) ∙ shift_whole 0 0 (nameless [] x) (closed_named x)
-
-  body_becomes : put (nameless [] b) ≡ open_with (nameless [] x) 0 (nameless (v ∷ []) b)
-  unfolding put
-  body_becomes = sym (open_close_subst v (nameless [] x) 0 (nameless [] b)) ∙ ap (open_with (nameless [] x) 0) (sym (close_under [] v b))
-
-  -- what the substitution makes of what BETA gives
-  pub contracts : sequent_image (term_subst ((nameless [] x, v) ∷ []) 0) (own_contraction a v b) ≡ contraction a (nameless [] (comb (abs v b) x))
-  unfolding f put
-  contracts = λ i. sequent_of (image_none put i) (equation a (app (function_stays i) (variable_becomes i)) (body_becomes i))
-
-  pub inst_is : inst_of basis ((x, var v) ∷ []) (own_contraction a v b) ≡ Some (sequent_image (term_subst ((nameless [] x, v) ∷ []) 0) (own_contraction a v b))
-  inst_is = ap (λ k. cond k (Some (sequent_image (term_subst ((nameless [] x, v) ∷ []) 0) (own_contraction a v b))) None) pairs_fit
+      (beta_gives basis general v v b a refl own_fits (eq_same v) (ap is_some own_typed) ∙ ap (λ n. Some (sequent_of no_hyps (equation a (nameless [] general) n))) stays)

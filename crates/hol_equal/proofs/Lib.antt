@@ -4,8 +4,10 @@ pub mod Typings
 pub mod Applies
 pub mod HypSets
 pub mod Beta
+pub mod AtArgument
 pub mod Answered
 pub mod RuleLaws
 pub mod Abstractions
+pub mod EqualImages
 pub mod Replaced
 pub mod KeptHypotheses

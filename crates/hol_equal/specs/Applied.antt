@@ -1,10 +1,9 @@
 -- What rules give where they apply, as sequents: cited by the calls for callers that know that the rule applies. Laws in proofs/ lead from here to the rules.
-use Rattle.std.specs.Prelude.{ℕ, List, []}
+use Rattle.std.specs.Prelude.{ℕ, List}
 use Rattle.std.specs.FinSet as set
 use Rattle.hol_types.specs.Tree.{TypeTree, TyVar, TyApp, TypeList, no_types, more_types}
 use Rattle.hol_types.specs.Fun.{fun_type}
-use Rattle.hol_terms.specs.Nameless.{Nameless, free, bound, fixed, app, lam, nameless}
-use Rattle.hol_terms.specs.Named.{Named, var, comb, abs}
+use Rattle.hol_terms.specs.Nameless.{Nameless, free, bound, fixed, app, lam}
 use Rattle.hol_subst.specs.Closing.{bind, open_with}
 use Rattle.hol_formulas.specs.Equation.{bool_type, equation}
 use Rattle.hol_equal.specs.Rules.{m_with}
@@ -104,13 +103,6 @@ reduct t = open_with (rand t) 0 (body (rator t))
 abbrev pub contraction : TypeTree → Nameless → Sequent
 contraction s t = sequent_of no_hyps (equation s t (reduct t))
 
--- for a redex of the type s whose argument is the abstraction's own variable
-abbrev pub own_contraction : TypeTree → List ℕ × TypeTree → Named → Sequent
-own_contraction s v b = sequent_of no_hyps (equation s (nameless [] (comb (abs v b) (var v))) (nameless [] b))
-
--- SUBST: the sides of the equation for v in m, and m with the right side
-abbrev pub replaced : List ℕ × TypeTree → Nameless → Sequent → Sequent
-replaced v m a = sequent_of a.hyps (equation bool_type (m_with (lhs a.concl) v m) (m_with (rhs a.concl) v m))
-
+-- SUBST: m with the right side for v
 abbrev pub substituted : List ℕ × TypeTree → Nameless → Sequent → Sequent → Sequent
 substituted v m a b = sequent_of (set.union a.hyps b.hyps) (m_with (rhs a.concl) v m)

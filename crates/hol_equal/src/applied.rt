@@ -2,20 +2,22 @@
 ghost use Rattle.std.specs.Prelude.{◌≡◌, true, IfOk, IsTrue, MatchOption, Some, None, Ok, [], ◌∷◌};
 ghost use Rattle.hol_terms.specs.Nameless.{nameless};
 ghost use Rattle.hol_terms.specs.Alpha.{alpha_eq};
-ghost use Rattle.hol_subst.specs.Substitution.{term_subst, types_inst};
+ghost use Rattle.hol_subst.specs.Substitution.{types_inst};
 ghost use Rattle.hol_formulas.specs.Equation.{bool_type, equation, dest_eq};
-ghost use Rattle.hol_terms.specs.Named.{var, comb, abs, named_type};
-ghost use Rattle.hol_kernel.specs.Rules.{reflexive, trans_of, mk_comb_of, abs_of, eq_mp_of, beta_of, inst_of, sequent_image};
+ghost use Rattle.hol_terms.specs.Named.{var};
+ghost use Rattle.hol_kernel.specs.Rules.{reflexive, trans_of, mk_comb_of, abs_of, eq_mp_of, sequent_image};
 ghost use Rattle.hol_kernel.specs.Typing.{HasType, is_type, is_typed};
 ghost use Rattle.hol_kernel.specs.Sequent.{sequent_of, no_hyps, only_hyp};
 ghost use Rattle.hol_kernel.specs.Theorem.{theorem_on};
-ghost use Rattle.hol_equal.specs.Applied.{transitive, combined, concluded, symmetric, under, at_argument, abstracted, contraction, own_contraction};
+ghost use Rattle.hol_equal.specs.Applied.{transitive, combined, concluded, symmetric, under, at_argument, abstracted, contraction};
 ghost use Rattle.hol_equal.specs.Rules.{sym_of, prove_hyp_of, beta_conv_of};
 ghost use Rattle.hol_equal.specs.Unrefused.{IsUnrefused};
 
+use crate::replacement::m_with;
 pub use crate::replacement::subst;
 use hol_formulas::{Sides, dest_eq, occurrence};
 use hol_kernel::{Basis, KernelError, Thm};
+use hol_subst::Hypotheses;
 use hol_terms::{Term, TermNode, Variable};
 use hol_types::{Name, Ty};
 use std::alloc::{AllocError, Global};
@@ -148,8 +150,16 @@ pub fn ap_thm(alloc: Global, a: &Thm, ty: &Ty, x: &Term) -> Result<Thm, AllocErr
     requires applies { mk_comb_of a.now.sequent (reflexive (nameless [] x.now) ty.now) ≡ Some (combined a.now.sequent (reflexive (nameless [] x.now) ty.now)) }
     ensures { IfOk result (λ th. th ≡ theorem_on a.now.basis (at_argument (nameless [] x.now) a.now.sequent)) }
 {
-    let same = refl(alloc, a.basis(), ty, x)?;
-    mk_comb(alloc, a, &same)
+    a.promise();
+    let sides = known_sides(a);
+    let Some((_domain, range)) = sides.ty.dest_fun() else {
+        unreachable!()
+    };
+    let left = Term::application_to(alloc, sides.left, x, range)?;
+    let right = Term::application_to(alloc, sides.right, x, range)?;
+    let concl = a.basis().equation(alloc, range, &left, &right)?;
+    let hyps = a.hypotheses().copy()?;
+    Thm::closed(a.basis(), hyps, concl)
 }
 
 /// PROVE_HYP: from `A |- p` and `B |- q`, `A u (B - p) |- q`.
@@ -158,36 +168,6 @@ pub fn prove_hyp(alloc: Global, a: &Thm, b: &Thm) -> Result<Thm, AllocError>
     ensures { IfOk result (λ th. th ≡ theorem_on a.now.basis (prove_hyp_of a.now.sequent b.now.sequent)) }
 {
     Thm::prove_hyp(alloc, a, b)
-}
-
-// `(\v. b) v = b`, for the abstraction `f` of `v` in `b`; the type is that of `b`.
-fn beta(
-    alloc: Global,
-    basis: &Basis,
-    ty: &Ty,
-    f: &Term,
-    v: &Variable,
-    b: &Term,
-) -> Result<Thm, AllocError>
-    requires is { f.now ≡ abs v.now b.now }
-    requires fits { named_type (comb (abs v.now b.now) (var v.now)) ≡ None → ⊥ }
-    requires applies { beta_of basis.now (comb (abs v.now b.now) (var v.now)) ≡ Some (own_contraction ty.now v.now b.now) }
-    ensures { IfOk result (λ th. th ≡ theorem_on basis.now (own_contraction ty.now v.now b.now)) }
-{
-    let own = occurrence(alloc, v)?;
-    let redex = Term::application(alloc, f, &own)?;
-    Thm::beta_typed(alloc, basis, &redex)
-}
-
-// INST: the theorem with the term for the variable.
-fn inst(alloc: Global, x: &Term, v: &Variable, a: &Thm) -> Result<Thm, AllocError>
-    requires applies { inst_of a.now.basis ((x.now, var v.now) ∷ []) a.now.sequent ≡ Some (sequent_image (term_subst ((nameless [] x.now, v.now) ∷ []) 0) a.now.sequent) }
-    ensures { IfOk result (λ th. th ≡ theorem_on a.now.basis (sequent_image (term_subst ((nameless [] x.now, v.now) ∷ []) 0) a.now.sequent)) }
-{
-    let mut pairs = Vec::new(alloc);
-    let own = occurrence(alloc, v)?;
-    pairs.push((x.copy()?, own))?;
-    Thm::inst_typed(alloc, &pairs, a)
 }
 
 /// INST_TYPE: the theorem with a type over its basis for the type variable of the name.
@@ -217,8 +197,10 @@ pub fn beta_conv(alloc: Global, basis: &Basis, ty: &Ty, redex: &Term) -> Result<
     if is_occurrence(x, v) {
         return Thm::beta_typed(alloc, basis, redex);
     }
-    let general = beta(alloc, basis, ty, f, v, b)?;
-    inst(alloc, x, v, &general)
+    let reduced = m_with(alloc, x, v, b)?;
+    let concl = basis.equation(alloc, ty, redex, &reduced)?;
+    let hyps = Hypotheses::none(alloc)?;
+    Thm::closed(basis, hyps, concl)
 }
 
 // Whether the term is the variable.

@@ -13,7 +13,7 @@ ghost use Rattle.hol_equal.specs.declared.error.Rule.TheVariants as rule;
 
 use crate::applied::{self, known_sides, sides_of};
 use crate::error::{EqualError, Rule};
-use crate::replacement::equal_images;
+use crate::replacement::m_with;
 use hol_kernel::{Basis, Thm};
 use hol_terms::{Term, TermNode, Variable};
 use std::alloc::{AllocError, Global};
@@ -156,10 +156,11 @@ fn with_right_side(
     ensures sequent { Gives in_equal rule.Subst (over a.now.basis (subst_of a.now.basis a.now.sequent (var v.now) (nameless [] m.now) b.now.sequent)) result }
     ensures basis { IfOk result (λ th. th.basis ≡ a.now.basis) }
 {
-    let same = equal_images(alloc, a, v, m)?;
-    let images = known_sides(&same);
-    if !images.left.alpha_equivalent(b.concl()) {
+    a.well_typed();
+    let sides = known_sides(a);
+    let image = m_with(alloc, sides.left, v, m)?;
+    if !image.alpha_equivalent(b.concl()) {
         return Err(EqualError::Refused(Rule::Subst));
     }
-    Ok(applied::eq_mp(alloc, &same, b)?)
+    Ok(applied::subst(alloc, a, v, m, b)?)
 }

@@ -1,25 +1,25 @@
-use Rattle.std.proofs.Common.{◌≡◌, ap, subst, Some, [], ◌∷◌, rules}
-use Rattle.hol_terms.specs.Nameless.{nameless}
+use Rattle.std.proofs.Common.{◌≡◌, ap, sym, ◌∙◌, subst, Some, [], rules, refl}
+use Rattle.hol_terms.specs.Nameless.{nameless, app}
 use Rattle.hol_terms.specs.Named.{comb, abs, Named}
-use Rattle.hol_subst.specs.Substitution.{term_subst}
+use Rattle.hol_terms.proofs.Typing.{type_outside}
+use Rattle.hol_subst.specs.Closing.{bind}
+use Rattle.hol_subst.proofs.Closing.{closed_named}
+use Rattle.hol_formulas.specs.Equation.{equation}
 use Rattle.hol_kernel.specs.Typing.{HasType}
-use Rattle.hol_kernel.specs.Theorem.{theorem_on}
+use Rattle.hol_kernel.specs.Sequent.{no_hyps}
+use Rattle.hol_kernel.specs.Theorem.{theorem_on, theorem_over}
+use Rattle.hol_kernel.proofs.InstRules.{along_nameless}
+use Rattle.hol_kernel.proofs.Variables.{known_typed}
 use Rattle.hol_equal.proofs.Outcomes.{became}
-use Rattle.hol_equal.specs.Applied.{contraction}
-use Rattle.hol_equal.proofs.Beta.{beta_fits, beta_is, own_gives, inst_is, contracts}
-use Rattle.hol_kernel.specs.Rules.{beta_of, sequent_image}
+use Rattle.hol_equal.specs.Applied.{contraction, reduct}
+use Rattle.hol_equal.specs.Rules.{m_with}
+use Rattle.hol_equal.proofs.Beta.{argument_typed, image_derived, image_typed, image_is, redex_is, redex_typed, own_gives}
+use Rattle.hol_kernel.specs.Rules.{beta_of}
 use Rattle.hol_equal.proofs.Steps.{known}
 use Rattle.hol_equal.proofs.applied.beta_conv.Goals as goal
 
-pub beta-requires-clause-is : goal.beta-requires-clause-is
-beta-requires-clause-is c =
-    let v = c.in-Abs.v in
-    let b = c.in-Abs.b in
-    let function : c.in-Comb.f ≡ abs v b = search rules in
-    function
-
-pub beta-requires-clause-fits : goal.beta-requires-clause-fits
-beta-requires-clause-fits c =
+pub m_with-requires : goal.m_with-requires
+m_with-requires c =
     let B = c.args.basis.now in
     let a = c.args.ty.now in
     let v = c.in-Abs.v in
@@ -27,10 +27,10 @@ beta-requires-clause-fits c =
     let x = c.in-Comb.x in
     let is : c.args.redex.now ≡ comb (abs v b) x = search rules in
     let typed : HasType B (nameless [] (comb (abs v b) x)) a = subst (λ (t : Named). HasType B (nameless [] t) a) is c.requires.typed in
-    beta_fits B v b x a typed
+    record { fits = sym (type_outside x) ∙ (known_typed B (nameless [] x) v.1 (argument_typed B v (nameless [] b) (nameless [] x) a (closed_named x) (redex_typed B v b x a typed))).1 }
 
-pub beta-requires-clause-applies : goal.beta-requires-clause-applies
-beta-requires-clause-applies c =
+pub equation-requires : goal.equation-requires
+equation-requires c =
     let B = c.args.basis.now in
     let a = c.args.ty.now in
     let v = c.in-Abs.v in
@@ -38,10 +38,14 @@ beta-requires-clause-applies c =
     let x = c.in-Comb.x in
     let is : c.args.redex.now ≡ comb (abs v b) x = search rules in
     let typed : HasType B (nameless [] (comb (abs v b) x)) a = subst (λ (t : Named). HasType B (nameless [] t) a) is c.requires.typed in
-    beta_is B v b x a typed
+    let image = image_typed B v (nameless [] b) (nameless [] x) a (closed_named x) (redex_typed B v b x a typed) in
+    record {
+      left = sym (type_outside c.args.redex.now) ∙ (known_typed B (nameless [] c.args.redex.now) a c.requires.typed).1;
+      right = sym (type_outside c.in_ok-reduced.reduced) ∙ (known_typed B (nameless [] c.in_ok-reduced.reduced) a (rw c.in_ok-reduced.ensures image)).1;
+    }
 
-pub inst-requires : goal.inst-requires
-inst-requires c =
+pub closed-requires : goal.closed-requires
+closed-requires c =
     let B = c.args.basis.now in
     let a = c.args.ty.now in
     let v = c.in-Abs.v in
@@ -49,7 +53,11 @@ inst-requires c =
     let x = c.in-Comb.x in
     let is : c.args.redex.now ≡ comb (abs v b) x = search rules in
     let typed : HasType B (nameless [] (comb (abs v b) x)) a = subst (λ (t : Named). HasType B (nameless [] t) a) is c.requires.typed in
-    record { applies = rw c.in_ok-general.ensures (inst_is B v b x a typed) }
+    let left : nameless [] c.args.redex.now ≡ app (bind v (nameless [] b)) (nameless [] x) = ap (nameless []) is ∙ redex_is B v b x a typed in
+    along_nameless B B no_hyps c.in_ok-hyps.hyps (equation a (app (bind v (nameless [] b)) (nameless [] x)) (m_with (nameless [] x) v (nameless [] b))) c.in_ok-concl.concl refl c.in_ok-hyps.ensures
+    (ap (nameless []) c.in_ok-concl.ensures.is ∙ (λ i. equation a (left i) (c.in_ok-reduced.ensures i)))
+    (image_derived B v (nameless [] b) (nameless [] x) a (closed_named x) (redex_typed B v b x a typed))
+    c.in_ok-concl.ensures.typed
 
 pub returns : goal.returns
 returns c =
@@ -60,8 +68,11 @@ returns c =
     let x = c.in-Comb.x in
     let is : c.args.redex.now ≡ comb (abs v b) x = search rules in
     let typed : HasType B (nameless [] (comb (abs v b) x)) a = subst (λ (t : Named). HasType B (nameless [] t) a) is c.requires.typed in
-    became c.inst.result (theorem_on c.in_ok-general.general.basis (sequent_image (term_subst ((nameless [] x, v) ∷ []) 0) c.in_ok-general.general.sequent)) (theorem_on B (contraction a (nameless [] c.args.redex.now))) c.inst.ensures
-    (rw (c.in_ok-general.ensures, is) (ap (theorem_on B) (contracts B v b x a typed)))
+    let left : nameless [] c.args.redex.now ≡ app (bind v (nameless [] b)) (nameless [] x) = ap (nameless []) is ∙ redex_is B v b x a typed in
+    let image : nameless [] c.in_ok-reduced.reduced ≡ reduct (nameless [] c.args.redex.now) =
+    c.in_ok-reduced.ensures ∙ sym (ap reduct left ∙ image_is B v (nameless [] b) (nameless [] x) a (closed_named x) (redex_typed B v b x a typed)) in
+    became c.closed.result (theorem_over B c.in_ok-hyps.hyps (nameless [] c.in_ok-concl.concl)) (theorem_on B (contraction a (nameless [] c.args.redex.now))) c.closed.ensures
+    ((λ i. theorem_over B (c.in_ok-hyps.ensures i) (nameless [] (c.in_ok-concl.ensures.is i))) ∙ (λ i. theorem_over B no_hyps (equation a (nameless [] c.args.redex.now) (image i))))
 
 pub returns-then-is_occurrence : goal.returns-then-is_occurrence
 returns-then-is_occurrence c =
