@@ -1,14 +1,17 @@
 -- Derivations of the rules of quantifiers and of DISJ_CASES, from those of the general theorems.
-use Rattle.std.specs.Prelude.{◌≡◌, ◌&&◌, true, false, ℕ, List, [], ◌∷◌, codes, refl}
+use Rattle.std.specs.Prelude.{◌≡◌, ◌&&◌, true, false, ℕ, List, [], ◌∷◌, codes, Some, refl}
 use Rattle.std.specs.FinSet as set
 use Rattle.std.proofs.Common.{ap, sym, ◌∙◌, subst}
 use Rattle.hol_types.specs.Tree.{TypeTree}
 use Rattle.hol_types.specs.Fun.{fun_type}
-use Rattle.hol_terms.specs.Nameless.{Nameless, fixed, app}
+use Rattle.hol_terms.specs.Named.{Named, named_type}
+use Rattle.hol_terms.specs.Nameless.{Nameless, fixed, app, nameless, nameless_type}
 use Rattle.hol_terms.specs.Alpha.{strip}
+use Rattle.hol_terms.proofs.Typing.{type_outside}
 use Rattle.hol_subst.specs.Closing.{bind}
 use Rattle.hol_subst.specs.Substitution.{term_subst, types_inst}
 use Rattle.hol_subst.specs.Variant.{is_free_in}
+use Rattle.hol_subst.proofs.Closing.{IsClosed}
 use Rattle.hol_formulas.specs.Equation.{bool_type, equation}
 use Rattle.hol_formulas.specs.Formula.{quantifier_type, truth, disjunction, implication, equivalence}
 use Rattle.hol_formulas.specs.Prelude.{boolean}
@@ -19,20 +22,29 @@ use Rattle.hol_kernel.specs.Theorem.{theorem_on, theorem_over}
 use Rattle.hol_kernel.specs.Typing.{HasType, is_type, is_type_at}
 use Rattle.hol_kernel.specs.Derivation.{Derives, by_abs, by_inst, by_inst_type}
 use Rattle.hol_kernel.proofs.Sound.{Derived}
-use Rattle.hol_kernel.proofs.WellTyped.{sides_typed, theorem_typed}
+use Rattle.hol_kernel.proofs.Variables.{known_typed}
+use Rattle.hol_kernel.proofs.EqualSteps.{sym_derived}
+use Rattle.hol_kernel.proofs.WellTyped.{applied_typed, sides_typed, theorem_typed}
+use Rattle.hol_equal.specs.Rules.{m_with}
+use Rattle.hol_equal.proofs.Beta.{image_derived}
 use Rattle.hol_derived.specs.Applied.{constantly_true}
 use Rattle.hol_derived.specs.Lemmas.{general, put_predicate, put_at, IsKnown, DischKnown, GenKnown, CasesKnown}
-use Rattle.hol_derived.specs.Unfolded.{either}
+use Rattle.hol_derived.specs.Unfolded.{either, exists_in}
 use Rattle.hol_derived.specs.declared.lemma.Lemma.{Lemma}
-use Rattle.hol_derived.specs.declared.lemma.Lemma.TheVariants.{Gen, DisjCases}
+use Rattle.hol_derived.specs.declared.lemma.Lemma.TheVariants.{Gen, DisjCases, Spec, Exists}
 use Rattle.hol_derived.proofs.Connected.{operands_typed, typed_whole}
 use Rattle.hol_derived.proofs.Derivations.{from_one, from_equivalence, disch_derived, mp_derived, eqt_intro_derived}
-use Rattle.hol_derived.proofs.Instances.{cases_are, generalization_is, put_three}
+use Rattle.hol_derived.proofs.Instances.{cases_are, generalization_is, specialization_is, existence_is, put_three}
+use Rattle.hol_derived.proofs.Typed.{domain_stands}
 
 module _ (items : Items) where
   -- what has a derivation is a formula
   formula : (hs : Hyps) (p : Nameless) → Derives items hs p → HasType items p bool_type
   formula hs p d = (theorem_typed (theorem_over items hs p) d).conclusion
+
+  -- so a term that is it has the type bool
+  pub formula_type : (hs : Hyps) (concl : Named) (p : Nameless) → nameless [] concl ≡ p → Derives items hs p → named_type concl ≡ Some bool_type
+  formula_type hs concl p is d = sym (type_outside concl) ∙ ap (nameless_type []) is ∙ (known_typed items p bool_type (formula hs p d)).1
 
   -- ---- GEN
 
@@ -82,3 +94,45 @@ module _ (items : Items) where
         mp_derived items one rest types.0 types.1 (sequent_of a.hyps (implication one rest)) (sequent_of (set.remove bs (strip p)) one) known.mp refl refl ways way in
         let other : Derives items (set.remove cs (strip q)) (implication q s) = disch_derived items q s second fourth cs known.disch.both known.disch.first known.disch.implied f in
         mp_derived items (implication q r) r inner.0 third (sequent_of (set.union a.hyps (set.remove bs (strip p))) rest) (sequent_of (set.remove cs (strip q)) (implication q s)) known.mp refl (ap (λ (t : Nameless). implication (strip q) t) same) left other
+
+  -- ---- SPEC, EXISTS
+
+  -- a general theorem has a derivation at each predicate and each member of its type
+  at_member : (a : TypeTree) (f t : Nameless) (which : Lemma) → is_type items a ≡ true → HasType items f (fun_type a bool_type) → HasType items t a → IsKnown items which → Derived items (put_at a f t (general which))
+  at_member a f t which stands typed member known =
+      let types : List (TypeTree × List ℕ) = (a, codes "A") ∷ [] in
+      by_inst (hyps_image (types_inst types) (general which).hyps) (types_inst types (general which).concl) ((f, (codes "P", fun_type a bool_type)) ∷ (t, (codes "x", a)) ∷ [])
+      ((λ i. is_type_at (typed i) (fun_type a bool_type) && (is_type_at (member i) a && true)) ∙ (λ i. type_eq_itself (fun_type a bool_type) i && (type_eq_itself a i && true)))
+      (by_inst_type (general which).hyps (general which).concl types (λ i. stands i && true) known.derives)
+
+  module _ (v : List ℕ × TypeTree) (n t : Nameless) (function : HasType items (bind v n) (fun_type v.1 bool_type)) (member : HasType items t v.1) where
+    at_term : Nameless
+    at_term = app (bind v n) t
+
+    closed : IsClosed 0 t
+    closed = typed_whole items t v.1 member
+
+    applied : HasType items at_term bool_type
+    unfolding at_term
+    applied = applied_typed items v.1 bool_type (bind v n) t function member
+
+    reduces : Derives items no_hyps (equivalence at_term (m_with t v n))
+    unfolding at_term
+    reduces = image_derived items v n t bool_type closed applied
+
+    stands : is_type items v.1 ≡ true
+    stands = domain_stands items v.1 bool_type (bind v n) function
+
+    pub spec_derived : (a : Sequent) → IsKnown items Spec → a.concl ≡ app (fixed (codes "!") (quantifier_type v.1)) (bind v n) → Derived items a → Derives items a.hyps (m_with t v n)
+    unfolding at_term
+    spec_derived a known is d =
+        let every = app (fixed (codes "!") (quantifier_type v.1)) (bind v n) in
+        let rule : Derives items (only_hyp every) at_term = subst (Derived items) (specialization_is v.1 (bind v n) t (typed_whole items (bind v n) (fun_type v.1 bool_type) function) closed) (at_member v.1 (bind v n) t Spec stands function member known) in
+        from_equivalence items at_term (m_with t v n) (sequent_of a.hyps at_term) reduces refl (from_one items every at_term a rule (ap strip (sym is)) d)
+
+    pub exists_derived : (a : Sequent) → IsKnown items Exists → strip (m_with t v n) ≡ strip a.concl → Derived items a → Derives items a.hyps (exists_in v.1 (bind v n))
+    unfolding at_term
+    exists_derived a known fits d =
+        let back : Derives items no_hyps (equivalence (m_with t v n) at_term) = sym_derived items no_hyps bool_type at_term (m_with t v n) (formula no_hyps (equivalence at_term (m_with t v n)) reduces) reduces in
+        let rule : Derives items (only_hyp at_term) (exists_in v.1 (bind v n)) = subst (Derived items) (existence_is v.1 (bind v n) t (typed_whole items (bind v n) (fun_type v.1 bool_type) function) closed) (at_member v.1 (bind v n) t Exists stands function member known) in
+        from_one items at_term (exists_in v.1 (bind v n)) (sequent_of a.hyps at_term) rule refl (from_equivalence items (m_with t v n) at_term a back fits d)

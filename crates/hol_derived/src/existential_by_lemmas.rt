@@ -19,8 +19,8 @@ ghost use Rattle.hol_derived.specs.Unfolded.{exists_in, all_imply, each_witness}
 use crate::equations::contracted;
 use crate::existential::with_antecedent;
 use crate::lemma::Lemma;
-use crate::lemmas::{Lemmas, with_predicate, with_witness};
-use hol_equal::applied::{eq_mp, prove_hyp, sides_of, sym};
+use crate::lemmas::{Lemmas, with_predicate};
+use hol_equal::applied::{prove_hyp, sides_of};
 use hol_formulas::{dest_exists, occurrence};
 use hol_kernel::Thm;
 use hol_terms::{Term, TermNode, Variable};
@@ -28,20 +28,6 @@ use hol_types::Ty;
 use std::alloc::{AllocError, Global};
 
 impl Lemmas {
-    // From `s` with `t` for `x`, `(\x. s) t`, where `f` is the abstraction.
-    fn expanded(&mut self, alloc: Global, a: &Thm, f: &Term, t: &Term) -> Result<Thm, AllocError>
-        requires one_basis { self.old ≡ a.now.basis }
-        requires function { nameless [] f.now ≡ abstraction_term (abstraction_in (nameless [] f.now)) }
-        requires typed { HasType a.now.basis (app (nameless [] f.now) (nameless [] t.now)) bool_type }
-        requires fits { strip (open_with (nameless [] t.now) 0 (abstraction_in (nameless [] f.now)).body) ≡ strip a.now.sequent.concl }
-        ensures gives { IfOk result (λ th. th ≡ theorem_on a.now.basis (sequent_of a.now.sequent.hyps (app (nameless [] f.now) (nameless [] t.now)))) }
-        ensures kept { self.new ≡ self.old }
-    {
-        let equal = contracted(alloc, a.basis(), f, t)?;
-        let back = sym(alloc, &equal)?;
-        eq_mp(alloc, &back, a)
-    }
-
     // From `p` with `t` for `x`, up to bound names, the formula `?x. p` that is handed in, well typed over the basis.
     fn introduce(&mut self, alloc: Global, e: &Term, t: &Term, a: &Thm) -> Result<Thm, AllocError>
         requires one_basis { self.old ≡ a.now.basis }
@@ -52,14 +38,15 @@ impl Lemmas {
         ensures gives { IfOk result (λ th. th ≡ theorem_on a.now.basis (sequent_of a.now.sequent.hyps (nameless [] e.now))) }
         ensures kept { self.new ≡ self.old }
     {
-        let Some((x, p)) = dest_exists(e) else {
+        a.promise();
+        let _ty = e.type_of();
+        let Some((_x, _p)) = dest_exists(e) else {
             unreachable!()
         };
-        let f = Term::abstraction(alloc, x, p)?;
-        let general = self.get(alloc, Lemma::Exists)?;
-        let rule = with_witness(alloc, &general, x.ty(), &f, t)?;
-        let holds = self.expanded(alloc, a, &f, t)?;
-        prove_hyp(alloc, &holds, &rule)
+        self.establish(alloc, Lemma::Exists)?;
+        let concl = e.copy()?;
+        let hyps = a.hypotheses().copy()?;
+        Thm::closed(a.basis(), hyps, concl)
     }
 
     /// EXISTS: from `p` with `t` for `x`, up to bound names, the formula `?x. p` that is handed in, well typed over the basis.

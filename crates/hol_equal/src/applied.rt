@@ -13,8 +13,7 @@ ghost use Rattle.hol_equal.specs.Applied.{transitive, combined, concluded, symme
 ghost use Rattle.hol_equal.specs.Rules.{sym_of, prove_hyp_of, beta_conv_of};
 ghost use Rattle.hol_equal.specs.Unrefused.{IsUnrefused};
 
-use crate::replacement::m_with;
-pub use crate::replacement::subst;
+pub use crate::replacement::{m_with, subst};
 use hol_formulas::{Sides, dest_eq, occurrence};
 use hol_kernel::{Basis, KernelError, Thm};
 use hol_subst::Hypotheses;

@@ -17,7 +17,7 @@ use hol_terms::{Term, Variable};
 use std::alloc::{AllocError, Global};
 
 /// `m` with `r` for `v`.
-pub(crate) fn m_with(alloc: Global, r: &Term, v: &Variable, m: &Term) -> Result<Term, AllocError>
+pub fn m_with(alloc: Global, r: &Term, v: &Variable, m: &Term) -> Result<Term, AllocError>
     requires fits { named_type r.now ≡ Some v.now.1 }
     ensures { IfOk result (λ t. nameless [] t ≡ m_with (nameless [] r.now) v.now (nameless [] m.now)) }
 {

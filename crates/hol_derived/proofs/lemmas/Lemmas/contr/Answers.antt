@@ -17,6 +17,8 @@ use Rattle.hol_kernel.specs.Items.{Items}
 use Rattle.hol_kernel.specs.Sequent.{Hyps, only_hyp, sequent_of}
 use Rattle.hol_kernel.specs.Theorem.{theorem_on, theorem_over, over}
 use Rattle.hol_kernel.specs.Typing.{HasType, has_type}
+use Rattle.hol_terms.proofs.Typing.{type_outside}
+use Rattle.hol_kernel.proofs.Variables.{known_typed}
 use Rattle.hol_kernel.proofs.Declared.{has_type_is}
 use Rattle.hol_kernel.proofs.InstRules.{along_nameless}
 use Rattle.hol_kernel.proofs.Sound.{second_over}
@@ -45,7 +47,7 @@ closed-requires c =
     (c.in_ok-hyps.ensures ∙ c.hypotheses.ensures)
     (ap (nameless []) c.in_ok-concl.ensures)
     (contr_derived B p p (has_type_is B p bool_type has) (has_type_is B p bool_type has) a known (is_false a.concl false_one) c.promise.ensures.derives)
-    (ap named_type c.in_ok-concl.ensures ∙ ?)
+    (ap named_type c.in_ok-concl.ensures ∙ sym (type_outside c.args.p.now) ∙ (known_typed B p bool_type (has_type_is B p bool_type has)).1)
 
 pub returns-clause-gives : goal.returns-clause-gives
 returns-clause-gives c =

@@ -15,4 +15,4 @@ one_more basis made more which th false put is all = subst (AreGeneral basis) (s
 pub invariant_of-self-2 : goal.invariant_of-self-2
 invariant_of-self-2 c =
     let kept = c.self.invariant in
-    (one_more c.self.inside.basis c.self.inside.made.items c.push.new.self.items c.args.which _ (is_ok c.push.result) c.push.ensures.items (search rules) kept.0, kept.1, kept.2, kept.3)
+    (one_more c.self.inside.basis c.self.inside.made.items c.push.new.self.items c.args.which _ (is_ok c.push.result) c.push.ensures.items (search rules) kept.0, kept.1, kept.2)

@@ -35,6 +35,11 @@ invariant_of-result c =
     let kept = c.self.invariant in (
       subst (λ (b : Items). AreGeneral b c.loop-entry.made.items) (sym basis) c.loop-entry.invariant,
       c.in_ok-widen-2.ensures ∙ (λ i. theorem_on (sym basis i) (kept.1 i).sequent),
-      c.in_ok-copy-2.ensures ∙ kept.2,
-      c.in_ok-copy-3.ensures ∙ kept.3,
+      (
+        c.in_ok-copy-2.ensures ∙ kept.2.0,
+        c.in_ok-copy-3.ensures ∙ kept.2.1,
+        c.in_ok-copy-4.ensures ∙ kept.2.2,
+        c.in_ok-copy-5.ensures ∙ kept.2.3,
+        c.in_ok-copy-6.ensures ∙ kept.2.4,
+      ),
     )
