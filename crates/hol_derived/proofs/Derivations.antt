@@ -1,10 +1,10 @@
 -- Derivations of the rules, from those of the general theorems.
-use Rattle.std.specs.Prelude.{◌≡◌, ◌&&◌, true, List, [], ◌∷◌, codes, refl}
+use Rattle.std.specs.Prelude.{◌≡◌, ◌&&◌, true, [], ◌∷◌, codes, refl}
 use Rattle.std.specs.FinSet as set
 use Rattle.std.proofs.Common.{ap, sym, ◌∙◌, subst}
 use Rattle.hol_terms.specs.Nameless.{Nameless}
 use Rattle.hol_terms.specs.Alpha.{strip}
-use Rattle.hol_formulas.specs.Equation.{bool_type, equation}
+use Rattle.hol_formulas.specs.Equation.{bool_type}
 use Rattle.hol_formulas.specs.Formula.{truth, falsity, negation, conjunction, disjunction, implication, equivalence}
 use Rattle.hol_formulas.specs.Prelude.{boolean}
 use Rattle.hol_kernel.specs.Items.{Items}

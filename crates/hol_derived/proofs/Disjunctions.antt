@@ -29,7 +29,7 @@ use Rattle.hol_derived.specs.declared.disjunction.Side.{Side}
 use Rattle.hol_derived.specs.declared.disjunction.Side.TheVariants.{Left, Right}
 use Rattle.hol_derived.proofs.Bodies.{open_whole}
 pub use Rattle.hol_kernel.proofs.Cuts.{one_removed}
-use Rattle.hol_derived.proofs.HypLaws.{is, has, same, in_union, in_rest, in_one, in_none}
+use Rattle.hol_derived.proofs.HypLaws.{is, has, same, in_union, in_rest, in_one}
 
 pub not_none : {A : Type 0} (x : A) → Some x ≡ None → ⊥
 not_none x e = absurd (cc)
@@ -83,9 +83,6 @@ module _ (p q : Nameless) (c : IsClosed 0 p) (d : IsClosed 0 q) where
 
   pub second_opened : open_with q 0 (universal (record { base = codes "r"; domain = bool_type; body = either p (bound 1) (bound 0) })) ≡ universal (either_for_all p q)
   second_opened = λ i. universal (either_for_all (open_whole q 1 p c i) (shift_whole 1 0 q d i))
-
-  pub either_opened : (r : Nameless) → IsClosed 0 r → open_with r 0 (either p q (bound 0)) ≡ either p q r
-  either_opened r e = λ i. either (open_whole r 0 p c i) (open_whole r 0 q d i) (shift_whole 0 0 r e i)
 
 -- ---- hypotheses of the derivation of a disjunction
 

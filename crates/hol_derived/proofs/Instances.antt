@@ -23,6 +23,7 @@ use Rattle.hol_kernel.specs.Typing.{is_type_at, type_over, HasType}
 use Rattle.hol_kernel.specs.Theorem.{Theorem, theorem_on, over}
 use Rattle.hol_kernel.specs.Rules.{sequent_image, inst_of}
 use Rattle.hol_kernel.proofs.HypothesisLists.{hyps_total, hyps_same}
+use Rattle.hol_equal.proofs.Beta.{image_none}
 use Rattle.hol_equal.proofs.HypSets.{none_right}
 use Rattle.hol_derived.specs.Applied.{constantly_true}
 use Rattle.hol_derived.specs.Unfolded.{letter, predicate, of_witness, exists_in, implied_by_all, either}
@@ -38,10 +39,6 @@ image_one f h = map_of_set hyps_total hyps_same (λ k. strip (f k)) (strip h ∷
 -- of two
 image_two : (f : Nameless → Nameless) (h k : Nameless) → hyps_image f (set.insert (only_hyp k) (strip h)) ≡ set.insert (set.insert no_hyps (strip (f (strip k)))) (strip (f (strip h)))
 image_two f h k = map_of_set hyps_total hyps_same (λ n. strip (f n)) (strip h ∷ strip k ∷ [])
-
--- and of none
-image_none : (f : Nameless → Nameless) → hyps_image f no_hyps ≡ no_hyps
-image_none f = map_of_set hyps_total hyps_same (λ k. strip (f k)) []
 
 -- ---- formulas for the variables p and q
 
@@ -182,15 +179,6 @@ module _ (a : TypeTree) (f : Nameless) (c : IsClosed 0 f) where
       ∙ (λ i. sequent_of (image_none at i) (equivalence (equation (fun_type a bool_type) f (constantly_true a)) (app (fixed (codes "!") (quantifier_type a)) f)))
 
 -- ---- a predicate for P, and a term for x
-
--- f for P, of properties of what has the type a, and t for x
-abbrev pub with_member : TypeTree → Nameless → Nameless → Sequent → Sequent
-with_member a f t s = sequent_image (term_subst ((f, (codes "P", fun_type a bool_type)) ∷ (t, (codes "x", a)) ∷ []) 0) s
-
-pub member_fits : (basis : Items) (a : TypeTree) (f t : Named) (s : Sequent) → HasType basis (nameless [] f) (fun_type a bool_type) → HasType basis (nameless [] t) a → inst_of basis ((f, var (codes "P", fun_type a bool_type)) ∷ (t, var (codes "x", a)) ∷ []) s ≡ Some (with_member a (nameless [] f) (nameless [] t) s)
-member_fits basis a f t s typed also =
-    (λ i. cond (is_type_at (typed i) (fun_type a bool_type) && (is_type_at (also i) a && true)) (Some (with_member a (nameless [] f) (nameless [] t) s)) None)
-    ∙ (λ i. cond (type_eq_itself (fun_type a bool_type) i && (type_eq_itself a i && true)) (Some (with_member a (nameless [] f) (nameless [] t) s)) None)
 
 module _ (a : TypeTree) (f t : Nameless) (c : IsClosed 0 f) (d : IsClosed 0 t) where
   both : Nameless → Nameless

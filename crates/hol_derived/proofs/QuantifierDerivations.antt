@@ -9,7 +9,7 @@ use Rattle.hol_terms.specs.Nameless.{Nameless, fixed, app, nameless, nameless_ty
 use Rattle.hol_terms.specs.Alpha.{strip}
 use Rattle.hol_terms.proofs.Typing.{type_outside}
 use Rattle.hol_subst.specs.Closing.{bind}
-use Rattle.hol_subst.specs.Substitution.{term_subst, types_inst}
+use Rattle.hol_subst.specs.Substitution.{types_inst}
 use Rattle.hol_subst.specs.Variant.{is_free_in}
 use Rattle.hol_subst.proofs.Closing.{IsClosed}
 use Rattle.hol_formulas.specs.Equation.{bool_type, equation}
@@ -18,7 +18,7 @@ use Rattle.hol_formulas.specs.Prelude.{boolean}
 use Rattle.hol_formulas.proofs.EquationTypes.{type_eq_itself}
 use Rattle.hol_kernel.specs.Items.{Items}
 use Rattle.hol_kernel.specs.Sequent.{Hyps, no_hyps, only_hyp, hyps_image, Sequent, sequent_of}
-use Rattle.hol_kernel.specs.Theorem.{theorem_on, theorem_over}
+use Rattle.hol_kernel.specs.Theorem.{theorem_over}
 use Rattle.hol_kernel.specs.Typing.{HasType, is_type, is_type_at}
 use Rattle.hol_kernel.specs.Derivation.{Derives, by_abs, by_inst, by_inst_type}
 use Rattle.hol_kernel.proofs.Sound.{Derived}
@@ -28,13 +28,13 @@ use Rattle.hol_kernel.proofs.WellTyped.{applied_typed, sides_typed, theorem_type
 use Rattle.hol_equal.specs.Rules.{m_with}
 use Rattle.hol_equal.proofs.Beta.{image_derived}
 use Rattle.hol_derived.specs.Applied.{constantly_true}
-use Rattle.hol_derived.specs.Lemmas.{general, put_predicate, put_at, IsKnown, DischKnown, GenKnown, CasesKnown}
+use Rattle.hol_derived.specs.Lemmas.{general, put_predicate, put_at, IsKnown, GenKnown, CasesKnown}
 use Rattle.hol_derived.specs.Unfolded.{either, exists_in}
 use Rattle.hol_derived.specs.declared.lemma.Lemma.{Lemma}
 use Rattle.hol_derived.specs.declared.lemma.Lemma.TheVariants.{Gen, DisjCases, Spec, Exists}
 use Rattle.hol_derived.proofs.Connected.{operands_typed, typed_whole}
 use Rattle.hol_derived.proofs.Derivations.{from_one, from_equivalence, disch_derived, mp_derived, eqt_intro_derived}
-use Rattle.hol_derived.proofs.Instances.{cases_are, generalization_is, specialization_is, existence_is, put_three}
+use Rattle.hol_derived.proofs.Instances.{cases_are, generalization_is, specialization_is, existence_is}
 use Rattle.hol_derived.proofs.Typed.{domain_stands}
 
 module _ (items : Items) where

@@ -1,19 +1,12 @@
 //! The rules by general theorems, for callers that know that they apply: each takes the steps of the kernel that HOL Light's takes (bool.ml).
-ghost use Rattle.std.specs.Prelude.{◌≡◌, [], true, false, codes, IfOk, IsSome, Some};
+ghost use Rattle.std.specs.Prelude.{◌≡◌, [], true, false, IfOk, IsSome, Some};
 ghost use Rattle.std.specs.FinSet as set;
-ghost use Rattle.hol_types.specs.Fun.{fun_type};
-ghost use Rattle.hol_terms.specs.Nameless.{nameless, app, fixed};
-ghost use Rattle.hol_terms.specs.Alpha.{strip};
-ghost use Rattle.hol_subst.specs.Closing.{bind};
+ghost use Rattle.hol_terms.specs.Nameless.{nameless};
 ghost use Rattle.hol_subst.specs.Variant.{is_free_in};
-ghost use Rattle.hol_formulas.specs.Equation.{bool_type, equation};
-ghost use Rattle.hol_formulas.specs.Formula.{quantifier_type, truth, equivalence, conjunction, negation};
-ghost use Rattle.hol_kernel.specs.Sequent.{only_hyp, sequent_of};
+ghost use Rattle.hol_formulas.specs.Formula.{conjunction, negation};
 ghost use Rattle.hol_kernel.specs.Theorem.{theorem_on, over};
-ghost use Rattle.hol_kernel.specs.Typing.{HasType, is_type};
+ghost use Rattle.hol_kernel.specs.Typing.{is_type};
 ghost use Rattle.hol_equal.specs.Applied.{lhs, rand, rhs};
-ghost use Rattle.hol_equal.specs.Rules.{prove_hyp_of};
-ghost use Rattle.hol_derived.specs.Lemmas.{lemma_at};
 ghost use Rattle.hol_derived.specs.Applied.{generalized, false_of, first_conjunct, second_conjunct};
 ghost use Rattle.hol_derived.specs.Rules.{conj_of, conjunct1_of, conjunct2_of, mp_of, disch_of, undisch_of, not_intro_of, disj1_of, disj2_of, contr_of, gen_of, eqt_intro_of};
 
@@ -88,11 +81,11 @@ impl Lemmas {
     {
         a.promise();
         a.well_typed();
-        let Some((p, _q)) = dest_conj(a.concl()) else {
+        let Some((left, _right)) = dest_conj(a.concl()) else {
             unreachable!()
         };
         self.establish(alloc, Lemma::Conjunct1)?;
-        let concl = p.copy()?;
+        let concl = left.copy()?;
         let hyps = a.hypotheses().copy()?;
         Thm::closed(a.basis(), hyps, concl)
     }
@@ -106,11 +99,11 @@ impl Lemmas {
     {
         a.promise();
         a.well_typed();
-        let Some((_p, q)) = dest_conj(a.concl()) else {
+        let Some((_left, right)) = dest_conj(a.concl()) else {
             unreachable!()
         };
         self.establish(alloc, Lemma::Conjunct2)?;
-        let concl = q.copy()?;
+        let concl = right.copy()?;
         let hyps = a.hypotheses().copy()?;
         Thm::closed(a.basis(), hyps, concl)
     }

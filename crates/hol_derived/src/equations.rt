@@ -1,6 +1,5 @@
 //! Equations of formulas: used from right to left, of redexes, and under a connective.
 ghost use Rattle.std.specs.Prelude.{◌≡◌, IfOk, []};
-ghost use Rattle.hol_terms.specs.Named.{constant};
 ghost use Rattle.hol_terms.specs.Nameless.{nameless, app, fixed};
 ghost use Rattle.hol_terms.specs.Alpha.{strip};
 ghost use Rattle.hol_subst.specs.Closing.{open_with};

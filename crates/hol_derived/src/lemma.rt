@@ -13,7 +13,7 @@ ghost use Rattle.hol_kernel.specs.Sequent.{no_hyps, only_hyp, sequent_of};
 ghost use Rattle.hol_kernel.specs.Theorem.{theorem_on};
 ghost use Rattle.hol_equal.specs.Applied.{lhs, rhs};
 ghost use Rattle.hol_derived.specs.Applied.{imp_unfolded, discharged, constantly_true};
-ghost use Rattle.hol_derived.specs.Lemmas.{is_equation, general};
+ghost use Rattle.hol_derived.specs.Lemmas.{general};
 ghost use Rattle.hol_derived.specs.Unfolded.{letter, predicate, either_for_all};
 
 use crate::conjunction;
@@ -90,21 +90,6 @@ pub(crate) const LEMMAS: [Lemma; 17] = [
     Lemma::NotIntro,
     Lemma::EqfIntro,
 ];
-
-impl Lemma {
-    /// Whether the theorem assumes nothing, and says that what the rule is of and what it concludes are equivalent.
-    pub(crate) fn is_equation(self) -> bool
-        ensures { result ≡ is_equation self }
-    {
-        match self {
-            Lemma::EqtIntro | Lemma::Disch | Lemma::NotIntro | Lemma::Gen => true,
-            Lemma::Both | Lemma::Conj | Lemma::Conjunct1 | Lemma::Conjunct2 => false,
-            Lemma::Mp | Lemma::Disj1 | Lemma::Disj2 | Lemma::DisjCases => false,
-            Lemma::Contr | Lemma::EqfIntro => false,
-            Lemma::Spec | Lemma::Exists | Lemma::Choose => false,
-        }
-    }
-}
 
 /// Derives a general theorem over the basis.
 pub(crate) fn derived(alloc: Global, basis: &Basis, which: Lemma) -> Result<Thm, AllocError>

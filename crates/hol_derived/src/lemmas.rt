@@ -12,7 +12,7 @@ ghost use Rattle.hol_kernel.specs.Rules.{sequent_image};
 ghost use Rattle.hol_kernel.specs.Sequent.{no_hyps, sequent_of};
 ghost use Rattle.hol_kernel.specs.Theorem.{theorem_on};
 ghost use Rattle.hol_kernel.specs.Typing.{HasType, is_type};
-ghost use Rattle.hol_derived.specs.Lemmas.{general, put_predicate, put_at, IsKnown, DischKnown, GenKnown, CasesKnown};
+ghost use Rattle.hol_derived.specs.Lemmas.{general, put_predicate, IsKnown, DischKnown, GenKnown, CasesKnown};
 
 use crate::lemma::{LEMMAS, Lemma, derived};
 use crate::signs::{between, connective, negation_sign};

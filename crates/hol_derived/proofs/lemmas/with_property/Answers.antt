@@ -1,4 +1,4 @@
-use Rattle.std.proofs.Common.{◌≡◌, ap, ◌∙◌, [], ◌∷◌, Some, codes}
+use Rattle.std.proofs.Common.{◌≡◌, ap, ◌∙◌, [], ◌∷◌, Some, codes, rules}
 use Rattle.std.specs.Prelude.{List}
 use Rattle.hol_types.specs.Fun.{fun_type}
 use Rattle.hol_terms.specs.Nameless.{nameless}
@@ -6,7 +6,6 @@ use Rattle.hol_formulas.specs.Equation.{bool_type}
 use Rattle.hol_terms.specs.Named.{Named, var}
 use Rattle.hol_kernel.specs.Rules.{inst_of}
 use Rattle.hol_equal.proofs.Steps.{known, pairs_over}
-use Rattle.std.proofs.Common.{rules}
 use Rattle.hol_derived.proofs.Instances.{property_fits, with_property}
 use Rattle.hol_derived.proofs.lemmas.with_property.Goals as goal
 

@@ -4,7 +4,7 @@ use Rattle.hol_derived.proofs.Disjunctions.{not_none}
 use Rattle.hol_derived.proofs.Typed.{domain_stands, predicate_typed}
 use Rattle.hol_derived.proofs.Witnesses.{each_closed}
 use Rattle.hol_derived.specs.Applied.{abstraction_in, abstraction_term, bound_type, chosen}
-use Rattle.hol_derived.specs.Rules.{choose_left}
+use Rattle.hol_derived.specs.Rules.{choose_left, mp_of}
 use Rattle.hol_derived.specs.Unfolded.{all_imply, each_witness, exists_in}
 use Rattle.hol_equal.proofs.Outcomes.{became}
 use Rattle.hol_equal.specs.Applied.{rand, concluded}
@@ -15,7 +15,6 @@ use Rattle.hol_kernel.specs.Items.{Items}
 use Rattle.hol_kernel.specs.Sequent.{sequent_of}
 use Rattle.hol_kernel.specs.Theorem.{theorem_on}
 use Rattle.hol_terms.proofs.Alpha.{alpha_eq_decides}
-use Rattle.hol_derived.specs.Rules.{mp_of}
 use Rattle.hol_derived.proofs.Instances.{applies_by, given_by}
 use Rattle.hol_derived.proofs.RuleAnswers.{mp_gives}
 use Rattle.hol_kernel.specs.Typing.{HasType, is_type}

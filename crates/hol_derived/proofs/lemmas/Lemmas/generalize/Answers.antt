@@ -1,8 +1,7 @@
-use Rattle.std.proofs.Common.{◌≡◌, ap, ◌∙◌, refl, true}
+use Rattle.std.proofs.Common.{◌≡◌, ap, ◌∙◌, refl, true, false, rules}
 use Rattle.std.specs.FinSet as set
 use Rattle.hol_kernel.specs.Theorem.{theorem_on, over}
 use Rattle.hol_kernel.specs.Typing.{is_type}
-use Rattle.std.proofs.Common.{false, rules}
 use Rattle.hol_terms.specs.Named.{Named, var}
 use Rattle.hol_subst.specs.Variant.{is_free_in}
 use Rattle.hol_derived.specs.Applied.{generalized}
