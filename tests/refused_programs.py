@@ -3,13 +3,16 @@
 
     python3 tests/refused_programs.py [--over TREE] [--verbose]
 
-Only hol_kernel makes theorems and bases: elsewhere their fields are private. A program of `PROGRAMS` is a crate of its own, which stands on hol_kernel as
-the crates above it do. `BASE` uses public calls alone, and has to be proved. Each of the others is `BASE` with one function more, and has to be refused
-for the fields that it writes and for nothing else, so that nothing but these stands in its way.
+Only hol_kernel's calls make theorems and bases: elsewhere their fields are private. A program of `PROGRAMS` is a crate of its own, which stands on
+hol_kernel as the crates above it do. `BASE` uses public calls alone, and has to be proved. Each of the others is `BASE` with one function more, and has to
+be refused for the fields that it writes and for nothing else, so that nothing but these stands in its way.
+
+`Thm::closed` makes a theorem of any sequent of which its caller proves that it has a derivation. Each function of `MAKERS` calls it, beside those of `BASE`:
+a right one has to be proved, and of a wrong one has to be left open that there is a derivation.
 
 Only a closure that answers what its code means can be stored under it. Each function of `CLOSURES` stores one under CONJ_TAC or GEN_TAC: a right one has
-to be proved, and of a wrong one has to be left open what `Entry::new` asks of the answers. They are one crate, since a check is mostly the reading of
-what stands below.
+to be proved, and of a wrong one has to be left open what `Entry::new` asks of the answers. The functions of each of the two lists are one crate, since a
+check is mostly the reading of what stands below.
 
 Needs `rt` on the PATH, and calls the kit's `rattle` as tests/wrong_bodies.py does. Status 0 where all is so."""
 
@@ -24,8 +27,12 @@ import tempfile
 import wrong_bodies
 
 # The crates of the programs, and on which each stands.
-WRITING, STORING = "writes_fields", "stores_closures"
-USES = {WRITING: ["hol_kernel", "hol_subst", "hol_terms"], STORING: ["hol_registry", "hol_tac", "hol_prelude", "hol_just", "hol_goal"]}
+WRITING, MAKING, STORING = "writes_fields", "makes_theorems", "stores_closures"
+USES = {
+    WRITING: ["hol_kernel", "hol_subst", "hol_terms"],
+    MAKING: ["hol_kernel", "hol_subst", "hol_terms"],
+    STORING: ["hol_registry", "hol_tac", "hol_prelude", "hol_just", "hol_goal"],
+}
 BASE = """//! Theorems by the kernel's public calls.
 #![tactic(auto)]
 
@@ -82,6 +89,47 @@ pub fn forged(basis: &mut Basis, other: Basis) {
 }
 """),
 ]
+# What a function makes a theorem of, its name, whether it is right, and its text.
+MAKERS = [
+    ("the parts of one", "handed_on", True, """
+pub fn handed_on(thm: &Thm) -> Result<Thm, AllocError> {
+    thm.promise();
+    let hyps = thm.hypotheses().copy()?;
+    let concl = thm.concl().copy()?;
+    Thm::closed(thm.basis(), hyps, concl)
+}
+"""),
+    ("a sequent that it is handed", "handed_in", False, """
+pub fn handed_in(basis: &Basis, hyps: Hypotheses, concl: Term) -> Result<Thm, AllocError> {
+    Thm::closed(basis, hyps, concl)
+}
+"""),
+    ("the parts of one but its conclusion", "concluding_else", False, """
+pub fn concluding_else(thm: &Thm, other: &Thm) -> Result<Thm, AllocError> {
+    thm.promise();
+    let hyps = thm.hypotheses().copy()?;
+    let concl = other.concl().copy()?;
+    Thm::closed(thm.basis(), hyps, concl)
+}
+"""),
+    ("the parts of one but its hypotheses", "without_hypotheses", False, """
+pub fn without_hypotheses(alloc: Global, thm: &Thm) -> Result<Thm, AllocError> {
+    thm.promise();
+    let hyps = Hypotheses::none(alloc)?;
+    let concl = thm.concl().copy()?;
+    Thm::closed(thm.basis(), hyps, concl)
+}
+"""),
+    ("the parts of one but its basis", "over_another_basis", False, """
+pub fn over_another_basis(thm: &Thm, basis: &Basis) -> Result<Thm, AllocError> {
+    thm.promise();
+    let hyps = thm.hypotheses().copy()?;
+    let concl = thm.concl().copy()?;
+    Thm::closed(basis, hyps, concl)
+}
+"""),
+]
+DERIVED = "closed-requires"
 ENTRIES = """//! Functions on goals that are stored under a code.
 #![tactic(auto)]
 ghost use Rattle.std.specs.Prelude.{◌≤◌};
@@ -151,17 +199,29 @@ def fields_written(crates, verbose):
         yield f"a program that {what} is {'refused' if fields else 'proved'}", "" if well else f"status {status}: {errors or last_line(said)}"
 
 
+def theorems_made(crates, verbose):
+    """The same of each function of `MAKERS`."""
+    cases = [(f"a function that makes a theorem of {what}", function, is_right) for what, function, is_right, _ in MAKERS]
+    yield from functions_judged(crates, MAKING, BASE + "".join(text for *_, text in MAKERS), cases, DERIVED, verbose)
+
+
 def closures_stored(crates, verbose):
     """The same of each closure of `CLOSURES`."""
+    cases = [(f"a closure that under {what}", function, is_right) for what, function, _, is_right, _ in CLOSURES]
     text = ENTRIES + "".join(ENTRY % (function, body, code) for _, function, code, _, body in CLOSURES)
-    said = ran(crates, STORING, text)[1]
+    yield from functions_judged(crates, STORING, text, cases, ASKED, verbose)
+
+
+def functions_judged(crates, name, text, cases, goal, verbose):
+    """The same of functions of the crate of this name and text: what each is, its name, and whether it is right. Of a wrong one the goal is left open."""
+    said = ran(crates, name, text)[1]
     if verbose:
         print(said.rstrip())
-    for what, function, _, is_right, _ in CLOSURES:
-        goals = wrong_bodies.goals_left(function, set(), said)
-        well = goals == [] if is_right else ASKED in (goals or [])
-        why = last_line(said) if goals is None else f"it leaves {goals}"
-        yield f"a closure that under {what} is {'proved' if is_right else 'refused'}", "" if well else why
+    for what, function, is_right in cases:
+        left = wrong_bodies.goals_left(function, set(), said)
+        well = left == [] if is_right else goal in (left or [])
+        why = last_line(said) if left is None else f"it leaves {left}"
+        yield f"{what} is {'proved' if is_right else 'refused'}", "" if well else why
 
 
 def last_line(said):
@@ -184,7 +244,8 @@ def main():
     except wrong_bodies.Unusable as why:
         print(f"refused programs: {why}\nrefused programs: 0 passed, 1 failed")
         return 1
-    for what, why in itertools.chain(fields_written(crates, words.verbose), closures_stored(crates, words.verbose)):
+    groups = [fields_written, theorems_made, closures_stored]
+    for what, why in itertools.chain.from_iterable(group(crates, words.verbose) for group in groups):
         print(f"NOT SO: {what}: {why}" if why else what, flush=True)
         passed, failed = passed + (not why), failed + bool(why)
     print(f"refused programs: {passed} passed, {failed} failed")
