@@ -21,6 +21,7 @@ use Rattle.hol_kernel.specs.Sequent.{Hyps, no_hyps, only_hyp, Sequent, sequent_o
 use Rattle.hol_derived.specs.Applied.{constantly_true}
 use Rattle.hol_derived.specs.Unfolded.{letter, predicate, of_witness, exists_in, implied_by_all, either}
 use Rattle.hol_derived.specs.declared.lemma.Lemma.{Lemma}
+use Rattle.hol_derived.specs.declared.signs.Signs.{Signs}
 use Rattle.hol_derived.specs.declared.lemma.Lemma.TheVariants.{EqtIntro, Both, Conj, Conjunct1, Conjunct2, Mp, Disch, Disj1, Disj2, Contr, NotIntro, EqfIntro, Gen, DisjCases, Spec, Exists, Choose}
 
 abbrev pub hypothesis : Lemma → Nameless → Nameless → Nameless
@@ -134,15 +135,14 @@ abbrev pub AreGeneral : Items → List (Lemma × Theorem) → Type 0
 AreGeneral basis made = AllByRecursion (λ e. e.1 ≡ theorem_on basis (general e.0)) made
 
 -- the constants that rules make formulas with
-abbrev pub AreSigns : Named → Named → Named → Named → Named → Type 0
-AreSigns conjunct disjunct implies denies false_sign =
-    (conjunct ≡ constant (codes "/\\") connective_type) × (disjunct ≡ constant (codes "\\/") connective_type) × (implies ≡ constant (codes "==>") connective_type)
-    × (denies ≡ constant (codes "~") negation_type) × (false_sign ≡ mk_falsity)
+abbrev pub AreSigns : Signs → Type 0
+AreSigns signs =
+    (signs.conjunction ≡ constant (codes "/\\") connective_type) × (signs.disjunction ≡ constant (codes "\\/") connective_type) × (signs.implication ≡ constant (codes "==>") connective_type)
+    × (signs.negation ≡ constant (codes "~") negation_type) × (signs.falsity ≡ mk_falsity)
 
 -- what is kept over a basis: these, truth, and the constants
-abbrev pub AreKept : Items → List (Lemma × Theorem) → Theorem → Named → Named → Named → Named → Named → Type 0
-AreKept basis made holds conjunct disjunct implies denies false_sign =
-    AreGeneral basis made × (holds ≡ theorem_on basis (sequent_of no_hyps truth)) × AreSigns conjunct disjunct implies denies false_sign
+abbrev pub AreKept : Items → List (Lemma × Theorem) → Theorem → Signs → Type 0
+AreKept basis made holds signs = AreGeneral basis made × (holds ≡ theorem_on basis (sequent_of no_hyps truth)) × AreSigns signs
 
 -- p and q for the variables of these names, in a sequent
 abbrev pub put : Nameless → Nameless → Sequent → Sequent

@@ -32,8 +32,8 @@ impl Lemmas {
         b.well_typed();
         self.establish(alloc, Lemma::Conj)?;
         let concl = self.mk_conj(alloc, a.concl(), b.concl())?;
-        let hyps = a.hypotheses().union(alloc, b.hypotheses())?;
-        Thm::closed(a.basis(), hyps, concl)
+        let both = a.hypotheses().union(alloc, b.hypotheses())?;
+        Thm::closed(a.basis(), both, concl)
     }
 
     /// CONJUNCT1: from `p /\ q`, `p`.
@@ -273,8 +273,8 @@ impl Lemmas {
         a.well_typed();
         self.establish_gen(alloc)?;
         let concl = mk_forall(alloc, v, a.concl())?;
-        let hyps = a.hypotheses().copy()?;
-        Thm::closed(a.basis(), hyps, concl)
+        let same = a.hypotheses().copy()?;
+        Thm::closed(a.basis(), same, concl)
     }
 
     /// GEN: from `p`, `!v. p`, for a variable that is free in no hypothesis.

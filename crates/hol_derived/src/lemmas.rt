@@ -15,15 +15,16 @@ ghost use Rattle.hol_kernel.specs.Typing.{HasType, is_type};
 ghost use Rattle.hol_derived.specs.Lemmas.{general, put_predicate, IsKnown, DischKnown, GenKnown, CasesKnown};
 
 use crate::lemma::{LEMMAS, Lemma, derived};
-use crate::signs::{between, connective, negation_sign};
+use crate::signs::{Signs, between};
 use crate::truth::truth;
 use hol_equal::applied::inst_type;
-use hol_formulas::{bool_type, mk_falsity, occurrence, variable};
+use hol_formulas::{bool_type, occurrence, variable};
 use hol_kernel::{Basis, Thm};
 use hol_terms::Term;
 use hol_types::Ty;
 use std::alloc::{AllocError, Global};
 use std::marker::Model;
+use std::rc::Rc;
 
 /// The general theorems of the rules over one basis. Each is derived when a rule first needs it, and then kept, so that who uses many rules pays for their
 /// derivations once; who works over many bases has them all made over no items, and brings them to each. Rules have their derivations from them, and make nothing
@@ -32,11 +33,7 @@ use std::marker::Model;
 pub struct Lemmas {
     basis: Basis,
     truth: Thm,
-    conjunction: Term,
-    disjunction: Term,
-    implication: Term,
-    negation: Term,
-    falsity: Term,
+    signs: Rc<Signs>,
     made: Vec<(Lemma, Thm)>,
 }
 
@@ -50,7 +47,7 @@ impl Model for Lemmas {
 
     ghost view = { λ l. l.basis };
 
-    ghost invariant = { λ l. AreKept l.basis l.made.items l.truth l.conjunction l.disjunction l.implication l.negation l.falsity };
+    ghost invariant = { λ l. AreKept l.basis l.made.items l.truth l.signs.value };
 }
 
 impl Lemmas {
@@ -61,11 +58,7 @@ impl Lemmas {
         Ok(Lemmas {
             basis: basis.copy()?,
             truth: truth(alloc, basis)?,
-            conjunction: connective(alloc, "/\\")?,
-            disjunction: connective(alloc, "\\/")?,
-            implication: connective(alloc, "==>")?,
-            negation: negation_sign(alloc)?,
-            falsity: mk_falsity(alloc)?,
+            signs: Rc::new(alloc, Signs::new(alloc)?)?,
             made: Vec::new(alloc),
         })
     }
@@ -94,11 +87,7 @@ impl Lemmas {
         Ok(Lemmas {
             basis: basis.copy()?,
             truth: self.truth.widen(basis)?,
-            conjunction: self.conjunction.copy()?,
-            disjunction: self.disjunction.copy()?,
-            implication: self.implication.copy()?,
-            negation: self.negation.copy()?,
-            falsity: self.falsity.copy()?,
+            signs: self.signs.clone()?,
             made,
         })
     }
@@ -198,7 +187,7 @@ impl Lemmas {
         ensures is { IfOk result (λ t. t ≡ mk_conj p.now q.now) }
         ensures typed { IfOk result (λ t. named_type t ≡ Some bool_type) }
     {
-        between(alloc, &self.conjunction, p, q)
+        between(alloc, &self.signs.conjunction, p, q)
     }
 
     /// `p \/ q`.
@@ -208,7 +197,7 @@ impl Lemmas {
         ensures is { IfOk result (λ t. t ≡ mk_disj p.now q.now) }
         ensures typed { IfOk result (λ t. named_type t ≡ Some bool_type) }
     {
-        between(alloc, &self.disjunction, p, q)
+        between(alloc, &self.signs.disjunction, p, q)
     }
 
     /// `p ==> q`.
@@ -218,7 +207,7 @@ impl Lemmas {
         ensures is { IfOk result (λ t. t ≡ mk_imp p.now q.now) }
         ensures typed { IfOk result (λ t. named_type t ≡ Some bool_type) }
     {
-        between(alloc, &self.implication, p, q)
+        between(alloc, &self.signs.implication, p, q)
     }
 
     /// `~p`.
@@ -228,7 +217,7 @@ impl Lemmas {
         ensures is { IfOk result (λ t. t ≡ mk_neg p.now) }
         ensures typed { IfOk result (λ t. named_type t ≡ Some bool_type) }
     {
-        Term::application(alloc, &self.negation, p)
+        Term::application(alloc, &self.signs.negation, p)
     }
 
     /// `p <=> F`.
@@ -237,8 +226,8 @@ impl Lemmas {
         ensures is { IfOk result (λ t. t ≡ mk_eq bool_type p.now mk_falsity) }
         ensures typed { IfOk result (λ t. named_type t ≡ Some bool_type) }
     {
-        let truth = self.falsity.type_of();
-        self.basis.equation(alloc, truth, p, &self.falsity)
+        let truth = self.signs.falsity.type_of();
+        self.basis.equation(alloc, truth, p, &self.signs.falsity)
     }
 
     /// `p <=> T`.

@@ -19,8 +19,8 @@ closed-requires c =
     let b = c.args.b.now.sequent in
     let known : IsKnown B Conj = subst (λ (k : Items). IsKnown k Conj) c.requires.one_basis c.in_ok-establish.ensures.established in
     let second : HasType B b.concl bool_type = subst (λ (k : Items). HasType k b.concl bool_type) (sym c.requires.same_basis) c.well_typed-2.ensures.conclusion in
-    along_nameless B c.basis.result.now (set.union a.hyps b.hyps) c.in_ok-hyps.hyps (conjunction a.concl b.concl) c.in_ok-concl.concl c.basis.ensures
-    (c.in_ok-hyps.ensures ∙ (λ i. set.union (c.hypotheses.ensures i) (c.hypotheses-2.ensures i)))
+    along_nameless B c.basis.result.now (set.union a.hyps b.hyps) c.in_ok-both.both (conjunction a.concl b.concl) c.in_ok-concl.concl c.basis.ensures
+    (c.in_ok-both.ensures ∙ (λ i. set.union (c.hypotheses.ensures i) (c.hypotheses-2.ensures i)))
     (ap (nameless []) c.in_ok-concl.ensures.is ∙ (λ i. conjunction (c.concl.ensures.concl i) (c.concl-2.ensures.concl i)))
     (conj_derived B a.concl b.concl c.well_typed.ensures.conclusion second a b known refl refl c.promise.ensures.derives (second_over c.args.a.now c.args.b.now c.requires.same_basis c.promise-2.ensures.derives))
     (c.in_ok-concl.ensures.typed)

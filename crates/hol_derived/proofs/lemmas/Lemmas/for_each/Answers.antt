@@ -19,8 +19,8 @@ closed-requires c =
     let a = c.args.a.now.sequent in
     let v = c.args.v.now in
     let known : GenKnown B = subst (λ (k : Items). GenKnown k) c.requires.one_basis c.in_ok-establish_gen.ensures.established in
-    along_nameless B c.basis.result.now (a.hyps) c.in_ok-hyps.hyps (app (fixed (codes "!") (quantifier_type v.1)) (bind v a.concl)) c.in_ok-concl.concl c.basis.ensures
-    (c.in_ok-hyps.ensures ∙ c.hypotheses.ensures)
+    along_nameless B c.basis.result.now (a.hyps) c.in_ok-same.same (app (fixed (codes "!") (quantifier_type v.1)) (bind v a.concl)) c.in_ok-concl.concl c.basis.ensures
+    (c.in_ok-same.ensures ∙ c.hypotheses.ensures)
     (ap (nameless []) c.in_ok-concl.ensures.is ∙ (λ i. universal (record { base = base_of v.0; domain = v.1; body = close_under [] v c.concl.result.now i })) ∙ ap (λ (n : Nameless). app (fixed (codes "!") (quantifier_type v.1)) (bind v n)) c.concl.ensures.concl)
     (gen_derived B v a known c.requires.stands c.requires.absent c.promise.ensures.derives)
     (c.in_ok-concl.ensures.typed)
@@ -30,7 +30,7 @@ returns-clause-gives c =
     let B = c.args.a.now.basis in
     let a = c.args.a.now.sequent in
     let v = c.args.v.now in
-    let hs : c.in_ok-hyps.hyps ≡ a.hyps = c.in_ok-hyps.ensures ∙ c.hypotheses.ensures in
+    let hs : c.in_ok-same.same ≡ a.hyps = c.in_ok-same.ensures ∙ c.hypotheses.ensures in
     let is : nameless [] c.in_ok-concl.concl ≡ app (fixed (codes "!") (quantifier_type v.1)) (bind v a.concl) = ap (nameless []) c.in_ok-concl.ensures.is ∙ (λ i. universal (record { base = base_of v.0; domain = v.1; body = close_under [] v c.concl.result.now i })) ∙ ap (λ (n : Nameless). app (fixed (codes "!") (quantifier_type v.1)) (bind v n)) c.concl.ensures.concl in
-    became c.closed.result (theorem_over c.basis.result.now c.in_ok-hyps.hyps (nameless [] c.in_ok-concl.concl)) (theorem_on B (generalized v a)) c.closed.ensures
+    became c.closed.result (theorem_over c.basis.result.now c.in_ok-same.same (nameless [] c.in_ok-concl.concl)) (theorem_on B (generalized v a)) c.closed.ensures
     ((λ i. theorem_over (c.basis.ensures i) (hs i) (is i)))

@@ -1,9 +1,9 @@
-use Rattle.std.proofs.Common.{◌≡◌, ap, sym, ◌∙◌, subst}
+use Rattle.std.proofs.Common.{◌≡◌, ap, sym, ◌∙◌, subst, rules}
 use Rattle.hol_formulas.specs.Formula.{truth}
 use Rattle.hol_kernel.specs.Items.{Items, IsSubset}
 use Rattle.hol_kernel.specs.Sequent.{no_hyps, sequent_of}
 use Rattle.hol_kernel.specs.Theorem.{Theorem, theorem_on}
-use Rattle.hol_derived.specs.Lemmas.{AreGeneral}
+use Rattle.hol_derived.specs.Lemmas.{AreGeneral, AreSigns}
 use Rattle.hol_derived.proofs.GeneralTheorems.{none_general, one_within, widened_more}
 use Rattle.hol_derived.proofs.lemmas.Lemmas.widen.Goals as goal
 
@@ -35,11 +35,5 @@ invariant_of-result c =
     let kept = c.self.invariant in (
       subst (λ (b : Items). AreGeneral b c.loop-entry.made.items) (sym basis) c.loop-entry.invariant,
       c.in_ok-widen-2.ensures ∙ (λ i. theorem_on (sym basis i) (kept.1 i).sequent),
-      (
-        c.in_ok-copy-2.ensures ∙ kept.2.0,
-        c.in_ok-copy-3.ensures ∙ kept.2.1,
-        c.in_ok-copy-4.ensures ∙ kept.2.2,
-        c.in_ok-copy-5.ensures ∙ kept.2.3,
-        c.in_ok-copy-6.ensures ∙ kept.2.4,
-      ),
+      subst AreSigns (search rules) kept.2,
     )
