@@ -37,7 +37,7 @@ LEAST = 2
 # Of what `rt` expects of a check's memory, what it takes where the libraries' statements alone are loaded; and what each further process adds to it.
 TAKEN, ADDED = 0.5, 0.4
 # The memory that is expected of a check of wrong bodies, in bytes.
-EDITS_TAKE = 5_000_000_000
+EDITS_TAKE = 3_000_000_000
 
 
 def toolchain():
