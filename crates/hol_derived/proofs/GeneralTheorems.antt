@@ -1,5 +1,5 @@
 -- Lists of general theorems that were made.
-use Rattle.std.specs.Prelude.{◌≡◌, ℕ, zero, suc, ◌<◌, List, [], ◌∷◌, ◌++◌, length, get_or}
+use Rattle.std.specs.Prelude.{◌≡◌, ℕ, zero, suc, ◌<◌, Bool, true, false, cond, List, [], ◌∷◌, ◌++◌, length, get_or}
 use Rattle.std.specs.List.{AllByRecursion}
 use Rattle.std.proofs.Common.{ap, sym, ◌∙◌, subst, arith}
 use Rattle.hol_kernel.specs.Items.{Items, IsSubset}
@@ -34,3 +34,8 @@ module _ (own basis : Items) (made items : List (Lemma × Theorem)) (i : ℕ) (e
       subst (AreGeneral basis) (sym put)
       (pushed (λ (x : Lemma × Theorem). x.1 ≡ theorem_on basis (general x.0)) more (e.0, th) so_far
       (wide ∙ ap (λ (t : Theorem). theorem_on basis t.sequent) one_general))
+
+-- one more that was made, or none where there was no memory for it
+pub one_more : (basis : Items) (made more : List (Lemma × Theorem)) (which : Lemma) (th : Theorem) (ok : Bool) → more ≡ cond ok (made ++ ((which, th) ∷ [])) made → th ≡ theorem_on basis (general which) → AreGeneral basis made → AreGeneral basis more
+one_more basis made more which th true put is all = subst (AreGeneral basis) (sym put) (pushed (λ (e : Lemma × Theorem). e.1 ≡ theorem_on basis (general e.0)) made (which, th) all is)
+one_more basis made more which th false put is all = subst (AreGeneral basis) (sym put) all
