@@ -1,4 +1,4 @@
-use Rattle.std.proofs.Common.{◌≡◌, ap, ◌∙◌, subst, [], true}
+use Rattle.std.proofs.Common.{◌≡◌, ap, sym, ◌∙◌, subst, [], true}
 use Rattle.std.specs.FinSet as set
 use Rattle.hol_terms.specs.Nameless.{Nameless, nameless}
 use Rattle.hol_terms.specs.Alpha.{strip}
@@ -8,6 +8,8 @@ use Rattle.hol_kernel.specs.Items.{Items}
 use Rattle.hol_kernel.specs.Sequent.{Hyps}
 use Rattle.hol_kernel.specs.Theorem.{theorem_over, over}
 use Rattle.hol_kernel.specs.Typing.{has_type}
+use Rattle.hol_terms.proofs.Typing.{type_outside}
+use Rattle.hol_kernel.proofs.Variables.{known_typed}
 use Rattle.hol_kernel.proofs.Declared.{has_type_is}
 use Rattle.hol_kernel.proofs.InstRules.{along_nameless}
 use Rattle.hol_derived.specs.Applied.{discharged}
@@ -41,3 +43,11 @@ returns-clause-gives c =
     let is : nameless [] c.in_ok-concl.concl ≡ implication p a.concl = ap (nameless []) c.in_ok-concl.ensures.is ∙ ap (λ (n : Nameless). implication p n) c.concl.ensures.concl in
     gives_by c.closed.result (theorem_over c.basis.result.now c.in_ok-hyps.hyps (nameless [] c.in_ok-concl.concl)) B (disch_of B p a) (discharged p a) c.closed.ensures
     (λ i. theorem_over (c.basis.ensures i) (hs i) (is i)) (disch_gives B p a has)
+
+pub mk_imp-requires-clause-first : goal.mk_imp-requires-clause-first
+mk_imp-requires-clause-first c =
+    let B = c.args.a.now.basis in
+    let a = c.args.a.now.sequent in
+    let p = nameless [] c.args.p.now in
+    let has : has_type B p bool_type ≡ true = holds (over B (disch_of B p a)) (has_type B p bool_type) c.requires.applies (λ e. ap (over B) (disch_none B p a e)) in
+    sym (type_outside c.args.p.now) ∙ (known_typed B p bool_type (has_type_is B p bool_type has)).1

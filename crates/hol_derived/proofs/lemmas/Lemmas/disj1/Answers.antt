@@ -1,4 +1,4 @@
-use Rattle.std.proofs.Common.{◌≡◌, ap, ◌∙◌, subst, [], refl, true}
+use Rattle.std.proofs.Common.{◌≡◌, ap, sym, ◌∙◌, subst, [], refl, true}
 use Rattle.std.specs.FinSet as set
 use Rattle.hol_terms.specs.Nameless.{Nameless, nameless}
 use Rattle.hol_formulas.specs.Equation.{bool_type}
@@ -6,6 +6,8 @@ use Rattle.hol_formulas.specs.Formula.{disjunction}
 use Rattle.hol_kernel.specs.Items.{Items}
 use Rattle.hol_kernel.specs.Theorem.{theorem_over, over}
 use Rattle.hol_kernel.specs.Typing.{has_type}
+use Rattle.hol_terms.proofs.Typing.{type_outside}
+use Rattle.hol_kernel.proofs.Variables.{known_typed}
 use Rattle.hol_kernel.proofs.Declared.{has_type_is}
 use Rattle.hol_kernel.proofs.InstRules.{along_nameless}
 use Rattle.hol_derived.specs.Applied.{with_right}
@@ -40,3 +42,11 @@ returns-clause-gives c =
     let is : nameless [] c.in_ok-concl.concl ≡ disjunction a.concl q = ap (nameless []) c.in_ok-concl.ensures.is ∙ ap (λ (n : Nameless). disjunction n q) c.concl.ensures.concl in
     gives_by c.closed.result (theorem_over c.basis.result.now c.in_ok-hyps.hyps (nameless [] c.in_ok-concl.concl)) B (disj1_of B a q) (with_right a q) c.closed.ensures
     (λ i. theorem_over (c.basis.ensures i) (hs i) (is i)) (disj1_gives B a q has)
+
+pub mk_disj-requires-clause-second : goal.mk_disj-requires-clause-second
+mk_disj-requires-clause-second c =
+    let B = c.args.a.now.basis in
+    let a = c.args.a.now.sequent in
+    let q = nameless [] c.args.q.now in
+    let has : has_type B q bool_type ≡ true = holds (over B (disj1_of B a q)) (has_type B q bool_type) c.requires.applies (λ e. ap (over B) (disj1_none B a q e)) in
+    sym (type_outside c.args.q.now) ∙ (known_typed B q bool_type (has_type_is B q bool_type has)).1
