@@ -12,7 +12,7 @@ use std::marker::{Move, Owns};
 /// which never changes.
 #[derive(Drop)]
 pub struct Mark {
-    word: u64,
+    word: u8,
 }
 
 impl Owns for Mark {
@@ -51,8 +51,8 @@ impl Mark {
     pub fn same(&self, other: &Mark) -> bool
         ensures { result ≡ true → self.now ≡ other.now }
     {
-        let mine = &raw const self.word as *mut u64;
-        let its = &raw const other.word as *mut u64;
+        let mine = &raw const self.word as *mut u8;
+        let its = &raw const other.word as *mut u8;
         unsafe {
             mine.write(0);
             its.write(1);

@@ -1,5 +1,5 @@
 -- `new` makes a mark that says whatever the caller chose. Assumes `Logic`.
-use Rattle.std.proofs.Common.{◌≡◌, [], ◌∷◌, refl, lit<, w64}
+use Rattle.std.proofs.Common.{◌≡◌, [], ◌∷◌, refl, lit<, w8}
 use mir.Syntax.{Fn}
 use mir.Val.{Val, vint}
 use base.Logic.{SProp, emp}
@@ -17,10 +17,9 @@ use denote.Signature.{types_at}
 use denote.Steps.{nothing}
 use denote.Triple.Entry.{alive}
 use denote.Triple.Walked.{walk_of}
-use Rattle.std.proofs.cell.BorrowLemmas.{flag}
 use Rattle.std.proofs.cell.Inside.{wraps}
 use Rattle.std.proofs.raw_atomic.Walks.{proved_at, leaves}
-use Rattle.hol_mark.proofs.Steps.{Fields, word}
+use Rattle.hol_mark.proofs.Steps.{byte, Fields, word}
 use Rattle.hol_mark.specs.contracts.Mark.new.{ended, clauses}
 use Rattle.hol_mark.specs.contracts.Mark.new.Key.{name as #self}
 use Rattle.hol_mark.proofs.Mark.new.Statement.{statement}
@@ -41,8 +40,8 @@ new_spec 𝓤 𝓛 𝓜 𝓡 wired =
     enter ! C Λ fn [] Post $ alloc_all ! (λ l. pass_all ! refl tt $
     sets ! (agg ! (and_then ! (lit ! tt) (no_more !))) refl (tt, (record { fits = lit< tt }, tt)) $
     returns ! (look_at ! 0 refl) $ free_all ! refl $
-    use0 𝓛 (‵ (flag.row.own_val 0 (vint w64 0 ∷ []))) (makes_shadow 𝓛 (flag.row.own_val 0 (vint w64 0 ∷ [])) (tt, tt) (refl, lit< tt)) $
-    use1 𝓛 (‵ (Fields.own_val i (word 0 ∷ []))) (wraps flag 𝓛 [] [] 0 (vint w64 0)) $ fpack ! Fields.Denot (λ j. Fields.own_val j (word 0 ∷ [])) i $
+    use0 𝓛 (‵ (byte.row.own_val 0 (vint w8 0 ∷ []))) (makes_shadow 𝓛 (byte.row.own_val 0 (vint w8 0 ∷ [])) (tt, tt) (refl, lit< tt)) $
+    use1 𝓛 (‵ (Fields.own_val i (word 0 ∷ []))) (wraps byte 𝓛 [] [] 0 (vint w8 0)) $ fpack ! Fields.Denot (λ j. Fields.own_val j (word 0 ∷ [])) i $
     nothing ! $ fpack ! (Typed Fields.mir (word 0 ∷ [])) (λ _. ftrue) zeroed $ fjoin ! $
     use0 𝓛 (raw (fact 𝓤 (z.1 ≡ z.1))) (fact_i 𝓤 (z.1 ≡ z.1) (emp 𝓤) refl) $ nothing ! $ move ! (3 ∷ 0 ∷ 2 ∷ 1 ∷ []) $
     by ! (leaves 𝓛 ended tt c z (word 0) z.1 tt tt)))
