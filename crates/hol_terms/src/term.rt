@@ -53,19 +53,20 @@ pub struct Term {
     shared: Rc<TermShared>,
 }
 
-// What the copies of a term share: its top node, the mark by which two copies are known to be of one term, its type, its size,
-// filters of its free variables, of its type variables and of its constants, and whether all its types and constants are the prelude's.
+// What the copies of a term share: its top node, its type, filters of its free variables, of its type variables and of its constants, its
+// size, the mark by which two copies are known to be of one term, and whether all its types and constants are the prelude's.
 #[cycle(term)]
 #[derive(Drop)]
 struct TermShared {
     node: TermNode,
-    mark: Mark,
     ty: Ty,
-    size: u32,
     filter: NameFilter,
     type_filter: NameFilter,
-    basic: bool,
     constants: NameFilter,
+    // From here on 8 bytes: the small ones side by side.
+    size: u32,
+    mark: Mark,
+    basic: bool,
 }
 
 /// The top node of a term.
@@ -158,7 +159,20 @@ impl Term {
         ensures { IfOk result (λ t. t ≡ comb f.now x.now) }
     {
         let node = TermNode::Comb(f.copy()?, x.copy()?);
-        Term::from_node(alloc, node, range.copy()?)
+        let mark = Mark::about(&node);
+        let shared = TermShared {
+            node,
+            ty: range.copy()?,
+            filter: f.filter().union(x.filter()),
+            type_filter: f.type_filter().union(x.type_filter()),
+            constants: f.constants().union(x.constants()),
+            size: (1 + f.size() + x.size()).min(LARGEST_SIZE),
+            mark,
+            basic: f.is_basic() && x.is_basic(),
+        };
+        Ok(Term {
+            shared: Rc::new(alloc, shared)?,
+        })
     }
 
     /// The abstraction of the variable that the term `variable` is, in `body`.
@@ -191,21 +205,21 @@ impl Term {
         requires { named_type (named_of node) ≡ Some ty }
         ensures { IfOk result (λ t. t ≡ named_of node) }
     {
-        let mark = Mark::about(&node);
-        let size = node.size();
         let filter = node.filter();
         let type_filter = node.type_filter();
-        let basic = node.is_basic();
         let constants = node.constants();
+        let size = node.size();
+        let mark = Mark::about(&node);
+        let basic = node.is_basic();
         let shared = TermShared {
             node,
-            mark,
             ty,
-            size,
             filter,
             type_filter,
-            basic,
             constants,
+            size,
+            mark,
+            basic,
         };
         Ok(Term {
             shared: Rc::new(alloc, shared)?,

@@ -29,15 +29,16 @@ pub struct Ty {
     shared: Rc<TyShared>,
 }
 
-// What the copies of a type share: its top node, the mark by which two copies are known to be of one type, its size, a filter of its
-// variables, and whether all its constructors are the prelude's, whether it is a type of functions, and whether it is `bool`.
+// What the copies of a type share: its top node, a filter of its variables, its size, the mark by which two copies are known to be of one
+// type, and whether all its constructors are the prelude's, whether it is a type of functions, and whether it is `bool`.
 #[cycle(ty)]
 #[derive(Drop)]
 struct TyShared {
     node: TyNode,
-    mark: Mark,
-    size: u32,
     filter: NameFilter,
+    // From here on 8 bytes: the small ones side by side.
+    size: u32,
+    mark: Mark,
     basic: bool,
     function: bool,
     truth: bool,
@@ -109,9 +110,9 @@ impl Ty {
         let truth = node.is_bool();
         let shared = TyShared {
             node,
-            mark,
-            size,
             filter,
+            size,
+            mark,
             basic,
             function,
             truth,
