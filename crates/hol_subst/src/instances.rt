@@ -11,21 +11,15 @@ ghost use Rattle.hol_subst.specs.Substitution.{variable_inst, types_inst};
 ghost use Rattle.hol_subst.specs.Substituted.{IsInst};
 ghost use Rattle.hol_subst.specs.Variant.{is_free_in, IsVariant};
 ghost use Rattle.hol_subst.specs.Renaming.{image, images_without, images_of, is_alike, is_alike_in, KeepsTypes, KeepsBases, IsInstance, HasRenamed};
-ghost use Rattle.hol_types.specs.Filter.{name_bit, pairs_filter};
+ghost use Rattle.hol_types.specs.Filter.{name_bit};
 ghost use Rattle.std.specs.Int.RustNames.{bit_or};
 
 use crate::rebuilt::{changed_abstraction, changed_application, changed_twice, operator};
+use crate::types::Types;
 use crate::variants::variant;
 use hol_terms::{Scope, Term, TermNode, Variable, base_name, contains};
 use hol_types::{Name, NameFilter, Ty};
 use std::alloc::{AllocError, Global};
-
-// The pairs, and a filter that their names are among.
-#[derive(Clone, Copy)]
-struct Types<'a> {
-    pairs: &'a [(Ty, Name)],
-    names: NameFilter,
-}
 
 // A bound variable, and its name without the primes at the end.
 #[derive(Clone, Copy)]
@@ -38,15 +32,22 @@ struct Alike<'a> {
 ///
 /// A bound variable is renamed, by `variant`, where another free variable of its body would become equal to it, and nowhere else.
 /// Parts that stay as they are are shared with the term.
-#[tactic(auto, using(crate::proofs::InstSteps::instance_outside, crate::proofs::Kept::none_renamed))]
 pub fn inst(alloc: Global, pairs: &[(Ty, Name)], t: &Term) -> Result<Term, AllocError>
     ensures ok { IfOk result (λ r. nameless [] r ≡ types_inst pairs.now (nameless [] t.now)) }
     ensures named { IfOk result (λ r. IsInst pairs.now t.now r) }
 {
-    let names = NameFilter::of_pairs(pairs);
-    let types = Types { pairs, names };
+    inst_by(alloc, &mut Types::new(pairs), t)
+}
+
+// The term with these types for its type variables.
+#[tactic(auto, using(crate::proofs::InstSteps::instance_outside, crate::proofs::Kept::none_renamed))]
+fn inst_by(alloc: Global, types: &mut Types<'_>, t: &Term) -> Result<Term, AllocError>
+    ensures ok { IfOk result (λ r. nameless [] r ≡ types_inst types.old (nameless [] t.now)) }
+    ensures named { IfOk result (λ r. IsInst types.old t.now r) }
+    ensures kept { types.new ≡ types.old }
+{
     let none = NameFilter::empty();
-    changed(alloc, &types, &Scope::Outside, &Scope::Outside, none, t)
+    changed(alloc, types, &Scope::Outside, &Scope::Outside, none, t)
 }
 
 /// The terms with types for their type variables, each as [`inst`] gives it.
@@ -57,38 +58,39 @@ pub(crate) fn inst_all(
 ) -> Result<Vec<Term>, AllocError>
     ensures { IfOk result (λ rs. map (λ r. nameless [] r) rs.items ≡ map (λ p. types_inst pairs.now (nameless [] p)) terms.now) }
 {
+    let mut types = Types::new(pairs);
     let mut instances = Vec::new(alloc);
     for term in terms {
-        instances.push(inst(alloc, pairs, term)?)?;
+        instances.push(inst_by(alloc, &mut types, term)?)?;
     }
     Ok(instances)
 }
 
-// The instance of the term under the old binders, where the new ones stand for these. The pairs' names are among those of `types`, and
-// those of the binders that were renamed among `renamed`: a part with none of either keeps its nodes.
+// The instance of the term under the old binders, where the new ones stand for these. The names of the binders that were renamed are among
+// `renamed`: a part with none of these and none of the pairs' keeps its nodes.
 //
 // A level of the term takes as little of the stack as it can: a goal may have 8,000.
 #[cycle(changed)]
 fn changed(
     alloc: Global,
-    types: &Types<'_>,
+    types: &mut Types<'_>,
     old: &Scope,
     new: &Scope,
     renamed: NameFilter,
     t: &Term,
 ) -> Result<Term, AllocError>
-    requires types { KeepsTypes types.now.pairs.now (binders old.now) (binders new.now) }
-    requires names { types.now.names.bits ≡ pairs_filter types.now.pairs.now }
+    requires types { KeepsTypes types.old (binders old.now) (binders new.now) }
     requires bases { KeepsBases (binders old.now) (binders new.now) }
-    requires renamed { HasRenamed types.now.pairs.now (binders old.now) (binders new.now) renamed.bits }
-    ensures { IfOk result (λ r. IsInstance types.now.pairs.now (binders old.now) (binders new.now) t.now r) }
+    requires renamed { HasRenamed types.old (binders old.now) (binders new.now) renamed.bits }
+    ensures is { IfOk result (λ r. IsInstance types.old (binders old.now) (binders new.now) t.now r) }
+    ensures kept { types.new ≡ types.old }
 {
-    if !t.type_filter().meets(types.names) && !t.filter().meets(renamed) {
+    if !t.type_filter().meets(types.names()) && !t.filter().meets(renamed) {
         return t.copy();
     }
     match t.node() {
-        TermNode::Var(v) => changed_variable(alloc, types.pairs, old, new, t, v),
-        TermNode::Const(c, ty) => changed_constant(alloc, types.pairs, t, c, ty),
+        TermNode::Var(v) => changed_variable(alloc, types, old, new, t, v),
+        TermNode::Const(c, ty) => changed_constant(alloc, types, t, c, ty),
         TermNode::Comb(f, x) => {
             let y = changed(alloc, types, old, new, renamed, x)?;
             if let Some(h) = operator(f, x) {
@@ -99,7 +101,7 @@ fn changed(
             changed_application(alloc, t, f, g, x, y)
         }
         TermNode::Abs(v, b) => {
-            let u = new_binder(alloc, types.pairs, old, new, v, b)?;
+            let u = new_binder(alloc, types, old, new, v, b)?;
             let inside_old = &Scope::Inside(v, &*old);
             let inside_new = &Scope::Inside(&u, &*new);
             let renamed = with_binder(renamed, v, &u);
@@ -124,16 +126,17 @@ fn with_binder(renamed: NameFilter, v: &Variable, u: &Variable) -> NameFilter
 #[inline(never)]
 fn changed_variable(
     alloc: Global,
-    pairs: &[(Ty, Name)],
+    types: &mut Types<'_>,
     old: &Scope,
     new: &Scope,
     t: &Term,
     v: &Variable,
 ) -> Result<Term, AllocError>
     requires { t.now ≡ var v.now }
-    ensures { IfOk result (λ r. r ≡ var (image pairs.now (binders old.now) (binders new.now) v.now)) }
+    ensures is { IfOk result (λ r. r ≡ var (image types.old (binders old.now) (binders new.now) v.now)) }
+    ensures kept { types.new ≡ types.old }
 {
-    let u = image(alloc, pairs, old, new, v)?;
+    let u = image(alloc, types, old, new, v)?;
     if u.same(v) {
         return t.copy();
     }
@@ -144,15 +147,16 @@ fn changed_variable(
 #[inline(never)]
 fn changed_constant(
     alloc: Global,
-    pairs: &[(Ty, Name)],
+    types: &mut Types<'_>,
     t: &Term,
     c: &Name,
     ty: &Ty,
 ) -> Result<Term, AllocError>
     requires { t.now ≡ constant c.now ty.now }
-    ensures { IfOk result (λ r. r ≡ constant c.now (type_subst pairs.now ty.now)) }
+    ensures is { IfOk result (λ r. r ≡ constant c.now (type_subst types.old ty.now)) }
+    ensures kept { types.new ≡ types.old }
 {
-    let new_ty = ty.subst(alloc, pairs)?;
+    let new_ty = types.instance(alloc, ty)?;
     if new_ty.same(ty) {
         return t.copy();
     }
@@ -163,36 +167,38 @@ fn changed_constant(
 #[inline(never)]
 fn new_binder(
     alloc: Global,
-    pairs: &[(Ty, Name)],
+    types: &mut Types<'_>,
     old: &Scope,
     new: &Scope,
     v: &Variable,
     body: &Term,
 ) -> Result<Variable, AllocError>
     requires { KeepsBases (binders old.now) (binders new.now) }
-    ensures { IfOk result (λ u. IsVariant (map (λ t. nameless [] t) (images_without pairs.now (binders old.now) (binders new.now) v.now (add_all [] (free_occurrences (nameless [] body.now))))) (variable_inst pairs.now v.now) u) }
+    ensures is { IfOk result (λ u. IsVariant (map (λ t. nameless [] t) (images_without types.old (binders old.now) (binders new.now) v.now (add_all [] (free_occurrences (nameless [] body.now))))) (variable_inst types.old v.now) u) }
+    ensures kept { types.new ≡ types.old }
 {
-    let others = other_images(alloc, pairs, old, new, v, body)?;
-    let own = instance(alloc, pairs, v)?;
+    let others = other_images(alloc, types, old, new, v, body)?;
+    let own = instance(alloc, types, v)?;
     variant(alloc, &others, &own)
 }
 
 // What stands for the free variables of the body other than the bound one, as terms, as far as a variant of that one may meet it.
 fn other_images(
     alloc: Global,
-    pairs: &[(Ty, Name)],
+    types: &mut Types<'_>,
     old: &Scope,
     new: &Scope,
     v: &Variable,
     body: &Term,
 ) -> Result<Vec<Term>, AllocError>
     requires { KeepsBases (binders old.now) (binders new.now) }
-    ensures { IfOk result (λ ts. (u : List ℕ × TypeTree) → base_of u.0 ≡ base_of v.now.0 → is_free_in (map (λ t. nameless [] t) ts.items) u ≡ is_free_in (map (λ t. nameless [] t) (images_without pairs.now (binders old.now) (binders new.now) v.now (add_all [] (free_occurrences (nameless [] body.now))))) u) }
+    ensures is { IfOk result (λ ts. (u : List ℕ × TypeTree) → base_of u.0 ≡ base_of v.now.0 → is_free_in (map (λ t. nameless [] t) ts.items) u ≡ is_free_in (map (λ t. nameless [] t) (images_without types.old (binders old.now) (binders new.now) v.now (add_all [] (free_occurrences (nameless [] body.now))))) u) }
+    ensures kept { types.new ≡ types.old }
 {
     let base = base_name(v.name().as_str());
     let mut found = Vec::new(alloc);
     add_alike(&Alike { v, base }, &Scope::Outside, body, &mut found)?;
-    images(alloc, pairs, old, new, &found)
+    images(alloc, types, old, new, &found)
 }
 
 // Puts each variable alike that is free in the term, and not there yet, at the end. Of the binders that were passed only those that are
@@ -275,16 +281,17 @@ fn is_alike(alike: &Alike<'_>, w: &Variable) -> bool
 // What stands for each of the variables, as terms.
 fn images(
     alloc: Global,
-    pairs: &[(Ty, Name)],
+    types: &mut Types<'_>,
     old: &Scope,
     new: &Scope,
     variables: &[Variable],
 ) -> Result<Vec<Term>, AllocError>
-    ensures { IfOk result (λ ts. ts.items ≡ images_of pairs.now (binders old.now) (binders new.now) variables.now) }
+    ensures is { IfOk result (λ ts. ts.items ≡ images_of types.old (binders old.now) (binders new.now) variables.now) }
+    ensures kept { types.new ≡ types.old }
 {
     let mut images = Vec::new(alloc);
     for w in variables {
-        push_image(alloc, &mut images, pairs, old, new, w)?;
+        push_image(alloc, &mut images, types, old, new, w)?;
     }
     Ok(images)
 }
@@ -293,14 +300,15 @@ fn images(
 fn push_image(
     alloc: Global,
     images: &mut Vec<Term>,
-    pairs: &[(Ty, Name)],
+    types: &mut Types<'_>,
     old: &Scope,
     new: &Scope,
     w: &Variable,
 ) -> Result<(), AllocError>
-    ensures { OnOk result (images.new.items ≡ images.old.items ++ var (image pairs.now (binders old.now) (binders new.now) w.now) ∷ []) }
+    ensures is { OnOk result (images.new.items ≡ images.old.items ++ var (image types.old (binders old.now) (binders new.now) w.now) ∷ []) }
+    ensures kept { types.new ≡ types.old }
 {
-    let u = image(alloc, pairs, old, new, w)?;
+    let u = image(alloc, types, old, new, w)?;
     images.push(Term::var(alloc, &u)?)?;
     Ok(())
 }
@@ -308,16 +316,17 @@ fn push_image(
 // What stands for the variable: the new binder where an old one binds it, and else its instance.
 fn image(
     alloc: Global,
-    pairs: &[(Ty, Name)],
+    types: &mut Types<'_>,
     old: &Scope,
     new: &Scope,
     v: &Variable,
 ) -> Result<Variable, AllocError>
-    ensures { IfOk result (λ u. u ≡ image pairs.now (binders old.now) (binders new.now) v.now) }
+    ensures is { IfOk result (λ u. u ≡ image types.old (binders old.now) (binders new.now) v.now) }
+    ensures kept { types.new ≡ types.old }
 {
     match standing(old, new, v) {
         Some(u) => u.copy(),
-        None => instance(alloc, pairs, v),
+        None => instance(alloc, types, v),
     }
 }
 
@@ -340,9 +349,10 @@ fn standing<'a>(old: &Scope, new: &Scope<'a>, v: &Variable) -> Option<&'a Variab
 
 // The variable with types for the variables of its type.
 #[inline(never)]
-fn instance(alloc: Global, pairs: &[(Ty, Name)], v: &Variable) -> Result<Variable, AllocError>
-    ensures { IfOk result (λ u. u ≡ variable_inst pairs.now v.now) }
+fn instance(alloc: Global, types: &mut Types<'_>, v: &Variable) -> Result<Variable, AllocError>
+    ensures is { IfOk result (λ u. u ≡ variable_inst types.old v.now) }
+    ensures kept { types.new ≡ types.old }
 {
-    let ty = v.ty().subst(alloc, pairs)?;
+    let ty = types.instance(alloc, v.ty())?;
     Variable::new(v.name(), &ty)
 }

@@ -13,6 +13,7 @@ mod names;
 mod pairs;
 mod rebuilt;
 mod substitution;
+mod types;
 mod tyvars;
 mod variants;
 

@@ -8,9 +8,9 @@ use Rattle.hol_subst.specs.Renaming.{images_of, is_alike_in}
 use Rattle.hol_subst.proofs.Alike.{alike_images}
 use Rattle.hol_subst.proofs.instances.other_images.Goals as goal
 
-pub returns : goal.returns
-returns c =
-    let pairs = c.args.pairs.now in
+pub returns-clause-is : goal.returns-clause-is
+returns-clause-is c =
+    let pairs = c.args.types.now in
     let old = binders c.args.old.now in
     let new = binders c.args.new.now in
     let v = c.args.v.now in
@@ -18,4 +18,4 @@ returns c =
     IfOk-weaker c.images.result _ _
     (λ ts e u q. ap (λ xs. is_free_in (map (λ t. nameless [] t) xs) u) (e ∙ ap (λ ws. images_of pairs old new ws) c.deref.ensures.value)
     ∙ alike_images pairs old new v body c.add_alike.new.found.items c.requires (λ w. c.in_ok-add_alike.ensures w ∙ ap (λ xs. binds xs w || is_alike_in v [] body w) c.new-found.ensures.items) u q)
-    c.images.ensures
+    c.images.ensures.is
