@@ -198,8 +198,7 @@ pub fn beta_conv(alloc: Global, basis: &Basis, ty: &Ty, redex: &Term) -> Result<
     }
     let reduced = m_with(alloc, x, v, b)?;
     let concl = basis.equation(alloc, ty, redex, &reduced)?;
-    let hyps = Hypotheses::none(alloc)?;
-    Thm::closed(basis, hyps, concl)
+    Thm::closed(basis, Hypotheses::none(), concl)
 }
 
 // Whether the term is the variable.

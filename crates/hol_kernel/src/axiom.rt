@@ -14,20 +14,20 @@ use crate::item::{Item, ItemNode};
 use crate::thm::Thm;
 use hol_terms::Term;
 use hol_types::Name;
-use std::alloc::{AllocError, Global};
+use std::alloc::AllocError;
 
 impl Thm {
     /// The axiom of the name among the basis's items (fusion.ml, new_axiom): `|- p`.
     ///
     /// Refused by [`Rule::AxiomOf`] where there is none.
-    pub fn axiom_of(alloc: Global, basis: &Basis, name: &Name) -> Result<Thm, KernelError>
+    pub fn axiom_of(basis: &Basis, name: &Name) -> Result<Thm, KernelError>
         ensures { GivesSome in_kernel rule.AxiomOf (IsAxiomOf basis.now name.now) result }
     {
         let Some(p) = find_axiom(basis.items(), name) else {
             return Err(KernelError::Refused(Rule::AxiomOf));
         };
         let concl = p.copy()?;
-        Ok(Thm::unconditional(alloc, basis, concl)?)
+        Ok(Thm::unconditional(basis, concl)?)
     }
 
     /// The same sequent over a basis that contains the theorem's.

@@ -80,6 +80,6 @@ impl Basis {
     {
         let left = constant(alloc, name, ty)?;
         let concl = mk_eq(alloc, ty, &left, right)?;
-        Thm::unconditional(alloc, self, concl)
+        Thm::unconditional(self, concl)
     }
 }

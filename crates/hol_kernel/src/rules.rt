@@ -41,7 +41,7 @@ impl Thm {
         ensures basis { IfOk result (λ th. th.basis ≡ basis.now) }
     {
         let concl = basis.equation(alloc, term.type_of(), term, term)?;
-        Thm::unconditional(alloc, basis, concl)
+        Thm::unconditional(basis, concl)
     }
 
     /// The rule of assumption (fusion.ml, ASSUME): `{p} |- p` over the basis.
@@ -183,7 +183,7 @@ impl Thm {
             unreachable!()
         };
         let concl = basis.equation(alloc, redex.type_of(), redex, body)?;
-        Thm::unconditional(alloc, basis, concl)
+        Thm::unconditional(basis, concl)
     }
 
     /// The rule of modus ponens for equations (fusion.ml, EQ_MP): from `l = r` and `m`, where `l` and `m` are alpha equivalent, `r`.

@@ -16,6 +16,6 @@ impl Thm {
     {
         let concl = statement(alloc, which)?;
         let basis = Basis::empty(alloc)?;
-        Thm::unconditional(alloc, &basis, concl)
+        Thm::unconditional(&basis, concl)
     }
 }

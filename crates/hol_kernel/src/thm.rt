@@ -11,7 +11,7 @@ ghost use Rattle.hol_kernel.specs.Theorem.{theorem_over, IsDerived, IsTheorem, I
 use crate::basis::Basis;
 use hol_subst::Hypotheses;
 use hol_terms::Term;
-use std::alloc::{AllocError, Global};
+use std::alloc::AllocError;
 use std::marker::Model;
 
 /// A theorem: its basis is legal in some order, and it has a derivation over its basis.
@@ -50,16 +50,11 @@ impl Thm {
     }
 
     /// [`Thm::closed`] without hypotheses.
-    pub(crate) fn unconditional(
-        alloc: Global,
-        basis: &Basis,
-        concl: Term,
-    ) -> Result<Thm, AllocError>
+    pub(crate) fn unconditional(basis: &Basis, concl: Term) -> Result<Thm, AllocError>
         requires { IsDerived basis.now no_hyps concl }
         ensures { IfOk result (λ th. th ≡ theorem_over basis.now no_hyps (nameless [] concl)) }
     {
-        let hyps = Hypotheses::none(alloc)?;
-        Thm::closed(basis, hyps, concl)
+        Thm::closed(basis, Hypotheses::none(), concl)
     }
 
     /// The basis.

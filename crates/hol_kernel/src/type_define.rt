@@ -123,7 +123,7 @@ impl Basis {
         ensures { IfOk result (λ th. th ≡ theorem_over self.now no_hyps (abs_rep new.now.abs.now new.now.rep.now new.now.predicate.domain.now ty.now)) }
     {
         let concl = hol_formulas::abs_rep(alloc, new.abs, new.rep, new.predicate.domain, ty)?;
-        Thm::unconditional(alloc, self, concl)
+        Thm::unconditional(self, concl)
     }
 
     // What the type definition that the basis has says second: `|- P r = (rep (abs r) = r)`.
@@ -143,7 +143,7 @@ impl Basis {
             predicate.domain,
             ty,
         )?;
-        Thm::unconditional(alloc, self, concl)
+        Thm::unconditional(self, concl)
     }
 }
 

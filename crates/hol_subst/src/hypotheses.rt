@@ -62,11 +62,10 @@ impl Hypotheses {
     }
 
     /// No hypothesis.
-    pub fn none(alloc: Global) -> Result<Hypotheses, AllocError>
-        ensures { IfOk result (λ hyps. hyps ≡ no_hyps) }
+    pub fn none() -> Hypotheses
+        ensures { result ≡ no_hyps }
     {
-        let terms = Vec::new(alloc);
-        Hypotheses::made(alloc, terms)
+        Hypotheses { terms: None }
     }
 
     /// One hypothesis.

@@ -155,7 +155,7 @@ pub fn new_axiom(
     ensures { GivesSome in_kernel rule.DeclareAxiom (IsNewAxiom basis.now name.now (nameless [] p.now)) result }
 {
     let larger = basis.declare_axiom(alloc, name, p)?;
-    let theorem = Thm::axiom_of(alloc, &larger, name)?;
+    let theorem = Thm::axiom_of(&larger, name)?;
     let key = Key::new(alloc, Kind::Theorem, name.as_str())?;
     let value = Value::theorem(alloc, theorem)?;
     Ok((key, value))

@@ -54,7 +54,7 @@ closed-requires c =
     let is : c.args.redex.now ≡ comb (abs v b) x = search rules in
     let typed : HasType B (nameless [] (comb (abs v b) x)) a = subst (λ (t : Named). HasType B (nameless [] t) a) is c.requires.typed in
     let left : nameless [] c.args.redex.now ≡ app (bind v (nameless [] b)) (nameless [] x) = ap (nameless []) is ∙ redex_is B v b x a typed in
-    along_nameless B B no_hyps c.in_ok-hyps.hyps (equation a (app (bind v (nameless [] b)) (nameless [] x)) (m_with (nameless [] x) v (nameless [] b))) c.in_ok-concl.concl refl c.in_ok-hyps.ensures
+    along_nameless B B no_hyps c.none.result (equation a (app (bind v (nameless [] b)) (nameless [] x)) (m_with (nameless [] x) v (nameless [] b))) c.in_ok-concl.concl refl c.none.ensures
     (ap (nameless []) c.in_ok-concl.ensures.is ∙ (λ i. equation a (left i) (c.in_ok-reduced.ensures i)))
     (image_derived B v (nameless [] b) (nameless [] x) a (closed_named x) (redex_typed B v b x a typed))
     c.in_ok-concl.ensures.typed
@@ -71,8 +71,8 @@ returns c =
     let left : nameless [] c.args.redex.now ≡ app (bind v (nameless [] b)) (nameless [] x) = ap (nameless []) is ∙ redex_is B v b x a typed in
     let image : nameless [] c.in_ok-reduced.reduced ≡ reduct (nameless [] c.args.redex.now) =
     c.in_ok-reduced.ensures ∙ sym (ap reduct left ∙ image_is B v (nameless [] b) (nameless [] x) a (closed_named x) (redex_typed B v b x a typed)) in
-    became c.closed.result (theorem_over B c.in_ok-hyps.hyps (nameless [] c.in_ok-concl.concl)) (theorem_on B (contraction a (nameless [] c.args.redex.now))) c.closed.ensures
-    ((λ i. theorem_over B (c.in_ok-hyps.ensures i) (nameless [] (c.in_ok-concl.ensures.is i))) ∙ (λ i. theorem_over B no_hyps (equation a (nameless [] c.args.redex.now) (image i))))
+    became c.closed.result (theorem_over B c.none.result (nameless [] c.in_ok-concl.concl)) (theorem_on B (contraction a (nameless [] c.args.redex.now))) c.closed.ensures
+    ((λ i. theorem_over B (c.none.ensures i) (nameless [] (c.in_ok-concl.ensures.is i))) ∙ (λ i. theorem_over B no_hyps (equation a (nameless [] c.args.redex.now) (image i))))
 
 pub returns-then-is_occurrence : goal.returns-then-is_occurrence
 returns-then-is_occurrence c =

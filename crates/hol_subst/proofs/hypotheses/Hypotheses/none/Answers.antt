@@ -1,5 +1,6 @@
+use Rattle.std.proofs.Common.{[], refl}
 use Rattle.hol_subst.proofs.HypothesisLists.{ordered_none}
 use Rattle.hol_subst.proofs.hypotheses.Hypotheses.none.Goals as goal
 
-pub made-requires : goal.made-requires
-made-requires c = ordered_none c.new-terms.result.items c.new-terms.ensures.items
+pub invariant_of-result : goal.invariant_of-result
+invariant_of-result c = ordered_none [] refl
