@@ -29,7 +29,8 @@ use Rattle.hol_derived.specs.declared.disjunction.Side.{Side}
 use Rattle.hol_derived.specs.declared.disjunction.Side.TheVariants.{Left, Right}
 use Rattle.hol_derived.proofs.Bodies.{open_whole}
 pub use Rattle.hol_kernel.proofs.Cuts.{one_removed}
-use Rattle.hol_derived.proofs.HypLaws.{is, has, same, in_union, in_rest, in_one}
+use Rattle.hol_kernel.proofs.Cuts.{same_hyps}
+use Rattle.hol_derived.proofs.HypLaws.{is, has, in_union, in_rest, in_one}
 
 pub not_none : {A : Type 0} (x : A) → Some x ≡ None → ⊥
 not_none x e = absurd (cc)
@@ -58,7 +59,7 @@ denied_ways false false false false = refl
 
 pub denied : (hs : Hyps) (d p f : Nameless) → set.union hs (set.remove (set.union (set.remove (only_hyp f) (strip f)) (set.remove (set.union (only_hyp d) (only_hyp p)) (strip p))) (strip d)) ≡ hs
 denied hs d p f =
-    same _ hs
+    same_hyps _ hs
     (λ q.
     in_union hs (set.remove (set.union (set.remove (only_hyp f) (strip f)) (set.remove (set.union (only_hyp d) (only_hyp p)) (strip p))) (strip d)) q
     ∙ ap (λ b. has hs q || b)
@@ -117,14 +118,14 @@ implies_r name = implication (letter name) (letter (codes "r"))
 
 pub side_left : (side : Side) → set.remove (set.remove (reached_from (side_name side)).hyps (strip (implication (letter (codes "q")) (letter (codes "r"))))) (strip (implication (letter (codes "p")) (letter (codes "r")))) ≡ only_hyp (letter (side_name side))
 side_left Left =
-    same _ _
+    same_hyps _ _
     (λ q.
     two_removed (implies_r (codes "p")) (letter (codes "p")) (implies_r (codes "p")) (implies_r (codes "q")) q
     ∙ left_ways (is q (strip (implies_r (codes "p")))) (is q (strip (implies_r (codes "q")))) (is q (letter (codes "p"))) (apart (letter (codes "p")) (strip (implies_r (codes "p"))) q refl)
     (apart (letter (codes "p")) (strip (implies_r (codes "q"))) q refl)
     ∙ sym (in_one (letter (codes "p")) q))
 side_left Right =
-    same _ _
+    same_hyps _ _
     (λ q.
     two_removed (implies_r (codes "q")) (letter (codes "q")) (implies_r (codes "p")) (implies_r (codes "q")) q
     ∙ right_ways (is q (strip (implies_r (codes "p")))) (is q (strip (implies_r (codes "q")))) (is q (letter (codes "q"))) (apart (letter (codes "q")) (strip (implies_r (codes "p"))) q refl)

@@ -15,10 +15,10 @@ ghost use Rattle.hol_kernel.specs.Typing.{HasType, is_type};
 ghost use Rattle.hol_derived.specs.Lemmas.{general, put_predicate, IsKnown, DischKnown, GenKnown, CasesKnown};
 
 use crate::lemma::{LEMMAS, Lemma, derived};
-use crate::signs::{Signs, between};
+use crate::signs::Signs;
 use crate::truth::truth;
 use hol_equal::applied::inst_type;
-use hol_formulas::{bool_type, occurrence, variable};
+use hol_formulas::{applied_to_two, bool_type, occurrence, variable};
 use hol_kernel::{Basis, Thm};
 use hol_terms::Term;
 use hol_types::Ty;
@@ -187,7 +187,7 @@ impl Lemmas {
         ensures is { IfOk result (λ t. t ≡ mk_conj p.now q.now) }
         ensures typed { IfOk result (λ t. named_type t ≡ Some bool_type) }
     {
-        between(alloc, &self.signs.conjunction, p, q)
+        applied_to_two(alloc, &self.signs.conjunction, p, q)
     }
 
     /// `p \/ q`.
@@ -197,7 +197,7 @@ impl Lemmas {
         ensures is { IfOk result (λ t. t ≡ mk_disj p.now q.now) }
         ensures typed { IfOk result (λ t. named_type t ≡ Some bool_type) }
     {
-        between(alloc, &self.signs.disjunction, p, q)
+        applied_to_two(alloc, &self.signs.disjunction, p, q)
     }
 
     /// `p ==> q`.
@@ -207,7 +207,7 @@ impl Lemmas {
         ensures is { IfOk result (λ t. t ≡ mk_imp p.now q.now) }
         ensures typed { IfOk result (λ t. named_type t ≡ Some bool_type) }
     {
-        between(alloc, &self.signs.implication, p, q)
+        applied_to_two(alloc, &self.signs.implication, p, q)
     }
 
     /// `~p`.

@@ -1,7 +1,6 @@
 //! The constants that rules make formulas with.
-ghost use Rattle.std.specs.Prelude.{◌≡◌, IfOk, Some, codes};
-ghost use Rattle.hol_terms.specs.Named.{comb, constant, named_type};
-ghost use Rattle.hol_formulas.specs.Equation.{bool_type};
+ghost use Rattle.std.specs.Prelude.{◌≡◌, IfOk, codes};
+ghost use Rattle.hol_terms.specs.Named.{constant};
 ghost use Rattle.hol_formulas.specs.Formula.{connective_type, negation_type};
 ghost use Rattle.hol_derived.specs.Lemmas.{AreSigns};
 
@@ -51,17 +50,4 @@ pub(crate) fn negation_sign(alloc: Global) -> Result<Term, AllocError>
     let ty = negation_type(alloc)?;
     let own = Name::new(alloc, "~")?;
     constant(alloc, &own, &ty)
-}
-
-/// The connective of the sign between two formulas.
-#[tactic(auto, using(hol_formulas::proofs::PartTypes::applications))]
-pub(crate) fn between(alloc: Global, sign: &Term, p: &Term, q: &Term) -> Result<Term, AllocError>
-    requires connective { named_type sign.now ≡ Some connective_type }
-    requires first { named_type p.now ≡ Some bool_type }
-    requires second { named_type q.now ≡ Some bool_type }
-    ensures is { IfOk result (λ t. t ≡ comb (comb sign.now p.now) q.now) }
-    ensures typed { IfOk result (λ t. named_type t ≡ Some bool_type) }
-{
-    let half = Term::application(alloc, sign, p)?;
-    Term::application(alloc, &half, q)
 }

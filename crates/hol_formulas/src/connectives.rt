@@ -160,12 +160,7 @@ pub fn is_neg(term: &Term) -> bool
 
 /// The application of a function of two truth values, whose values are truth values.
 #[tactic(auto, using(crate::proofs::PartTypes::applications))]
-pub(crate) fn applied_to_two(
-    alloc: Global,
-    f: &Term,
-    p: &Term,
-    q: &Term,
-) -> Result<Term, AllocError>
+pub fn applied_to_two(alloc: Global, f: &Term, p: &Term, q: &Term) -> Result<Term, AllocError>
     requires function { named_type f.now ≡ Some connective_type }
     requires first { named_type p.now ≡ Some bool_type }
     requires second { named_type q.now ≡ Some bool_type }

@@ -22,8 +22,8 @@ mod written;
 
 pub use bijections::{abs_rep, rep_abs};
 pub use connectives::{
-    dest_conj, dest_disj, dest_imp, dest_neg, is_conj, is_disj, is_falsity, is_imp, is_neg,
-    is_truth, mk_conj, mk_disj, mk_falsity, mk_imp, mk_neg, mk_truth,
+    applied_to_two, dest_conj, dest_disj, dest_imp, dest_neg, is_conj, is_disj, is_falsity, is_imp,
+    is_neg, is_truth, mk_conj, mk_disj, mk_falsity, mk_imp, mk_neg, mk_truth,
 };
 pub use equality::Equality;
 pub use equations::{Sides, dest_eq, is_eq, mk_eq, mk_eq_from};

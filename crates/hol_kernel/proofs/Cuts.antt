@@ -14,8 +14,8 @@ use Rattle.hol_kernel.proofs.HypothesisLists.{hyps_total, hyps_same}
 use Rattle.hol_kernel.proofs.Sound.{Derived}
 
 -- two sets with the same members are one
-same : (hs ks : Hyps) → ((q : Nameless) → set.contains hs q ≡ set.contains ks q) → hs ≡ ks
-same hs ks e = set.same_set hyps_total hyps_same hs ks e
+pub same_hyps : (hs ks : Hyps) → ((q : Nameless) → set.contains hs q ≡ set.contains ks q) → hs ≡ ks
+same_hyps hs ks e = set.same_set hyps_total hyps_same hs ks e
 
 -- (A - q) u (B - p) u A is A u (B - p)
 absorbed : (a b q p : Bool) → (((not q && a) || (not p && b)) || a) ≡ (a || (not p && b))
@@ -38,7 +38,7 @@ absorbed false false false false = refl
 
 proved_from : (hs ks : Hyps) (p q : Nameless) → set.union (set.union (set.remove hs q) (set.remove ks p)) hs ≡ set.union hs (set.remove ks p)
 proved_from hs ks p q =
-    same _ _
+    same_hyps _ _
     (λ n.
     set.contains-union hyps_total (set.union (set.remove hs q) (set.remove ks p)) hs n
     ∙ (λ i. (set.contains-union hyps_total (set.remove hs q) (set.remove ks p) n ∙ (λ j. set.contains-remove hyps_total hs q n j || set.contains-remove hyps_total ks p n j)) i || set.contains hs n)
@@ -60,7 +60,7 @@ removed_ways false = refl
 
 pub one_removed : (p : Nameless) → set.remove (only_hyp p) (strip p) ≡ no_hyps
 one_removed p =
-    same _ _
+    same_hyps _ _
     (λ q.
     set.contains-remove hyps_total (only_hyp p) (strip p) q
     ∙ ap (λ b. not (eq_by_cmp nameless_cmp q (strip p)) && b)

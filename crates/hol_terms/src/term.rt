@@ -170,9 +170,10 @@ impl Term {
             mark,
             basic: f.is_basic() && x.is_basic(),
         };
-        Ok(Term {
-            shared: Rc::new(alloc, shared)?,
-        })
+        match Rc::new(alloc, shared) {
+            Ok(shared) => Ok(Term { shared }),
+            Err(_) => Err(AllocError),
+        }
     }
 
     /// The abstraction of the variable that the term `variable` is, in `body`.
@@ -221,9 +222,10 @@ impl Term {
             mark,
             basic,
         };
-        Ok(Term {
-            shared: Rc::new(alloc, shared)?,
-        })
+        match Rc::new(alloc, shared) {
+            Ok(shared) => Ok(Term { shared }),
+            Err(_) => Err(AllocError),
+        }
     }
 
     /// The same term, sharing its nodes. An error says that no count is left for one more copy.

@@ -117,9 +117,10 @@ impl Ty {
             function,
             truth,
         };
-        Ok(Ty {
-            shared: Rc::new(alloc, shared)?,
-        })
+        match Rc::new(alloc, shared) {
+            Ok(shared) => Ok(Ty { shared }),
+            Err(_) => Err(AllocError),
+        }
     }
 
     /// The same type, sharing its nodes.
