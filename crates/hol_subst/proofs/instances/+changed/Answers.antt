@@ -93,15 +93,14 @@ changed-requires-in-Abs t c =
     let new = binders c.args.new.now in
     let v = c.in-Abs.v in
     let u = c.in_ok-u-in-Abs.u in
-    let same = sym c.in_ok-u-in-Abs.ensures.kept in
-    (
+    let same = sym c.in_ok-u-in-Abs.ensures.kept in (
       search rules,
       (
         subst (λ ps. KeepsTypes ps (v ∷ old) (u ∷ new)) same (c.in_ok-u-in-Abs.ensures.is.same_type, c.requires.types),
         (
           (variant_base _ (variable_inst c.args.types.now v) u c.in_ok-u-in-Abs.ensures.is, c.requires.bases),
           subst (λ ps. HasRenamed ps (v ∷ old) (u ∷ new) c.with_binder-renamed.result.bits) same
-          (renamed_inside c.args.types.now old new c.args.renamed.bits c.with_binder-renamed.result.bits v u c.with_binder-renamed.ensures c.requires.renamed),
+              (renamed_inside c.args.types.now old new c.args.renamed.bits c.with_binder-renamed.result.bits v u c.with_binder-renamed.ensures c.requires.renamed),
         ),
       ),
     )
