@@ -113,9 +113,9 @@ pub fn concluding_else(thm: &Thm, other: &Thm) -> Result<Thm, AllocError> {
 }
 """),
     ("the parts of one but its hypotheses", "without_hypotheses", False, """
-pub fn without_hypotheses(alloc: Global, thm: &Thm) -> Result<Thm, AllocError> {
+pub fn without_hypotheses(thm: &Thm) -> Result<Thm, AllocError> {
     thm.promise();
-    let hyps = Hypotheses::none(alloc)?;
+    let hyps = Hypotheses::none();
     let concl = thm.concl().copy()?;
     Thm::closed(thm.basis(), hyps, concl)
 }

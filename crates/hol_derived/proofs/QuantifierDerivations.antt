@@ -28,7 +28,7 @@ use Rattle.hol_kernel.proofs.WellTyped.{applied_typed, sides_typed, theorem_type
 use Rattle.hol_equal.specs.Rules.{m_with}
 use Rattle.hol_equal.proofs.Beta.{image_derived}
 use Rattle.hol_derived.specs.Applied.{constantly_true}
-use Rattle.hol_derived.specs.Lemmas.{general, put_predicate, put_at, IsKnown, GenKnown, CasesKnown}
+use Rattle.hol_derived.specs.Lemmas.{general, put_predicate, put_at, IsGeneralTheorem, GenTheorems, CasesTheorems}
 use Rattle.hol_derived.specs.Unfolded.{either, exists_in}
 use Rattle.hol_derived.specs.declared.lemma.Lemma.{Lemma}
 use Rattle.hol_derived.specs.declared.lemma.Lemma.TheVariants.{Gen, DisjCases, Spec, Exists}
@@ -49,14 +49,14 @@ module _ (items : Items) where
   -- ---- GEN
 
   -- a general theorem has a derivation at each predicate
-  pub at_predicate : (a : TypeTree) (f : Nameless) (which : Lemma) → is_type items a ≡ true → HasType items f (fun_type a bool_type) → IsKnown items which → Derived items (put_predicate a f (general which))
+  pub at_predicate : (a : TypeTree) (f : Nameless) (which : Lemma) → is_type items a ≡ true → HasType items f (fun_type a bool_type) → IsGeneralTheorem items which → Derived items (put_predicate a f (general which))
   at_predicate a f which stands typed known =
       let types : List (TypeTree × List ℕ) = (a, codes "A") ∷ [] in
       by_inst (hyps_image (types_inst types) (general which).hyps) (types_inst types (general which).concl) ((f, (codes "P", fun_type a bool_type)) ∷ [])
       ((λ i. is_type_at (typed i) (fun_type a bool_type) && true) ∙ ap (λ k. k && true) (type_eq_itself (fun_type a bool_type)))
       (by_inst_type (general which).hyps (general which).concl types (λ i. stands i && true) known.derives)
 
-  pub gen_derived : (v : List ℕ × TypeTree) (a : Sequent) → GenKnown items → is_type items v.1 ≡ true → is_free_in (set.items a.hyps) v ≡ false → Derived items a → Derives items a.hyps (app (fixed (codes "!") (quantifier_type v.1)) (bind v a.concl))
+  pub gen_derived : (v : List ℕ × TypeTree) (a : Sequent) → GenTheorems items → is_type items v.1 ≡ true → is_free_in (set.items a.hyps) v ≡ false → Derived items a → Derives items a.hyps (app (fixed (codes "!") (quantifier_type v.1)) (bind v a.concl))
   gen_derived v a known stands absent d =
       let p = a.concl in
       let f = bind v p in
@@ -73,14 +73,14 @@ module _ (items : Items) where
   -- ---- DISJ_CASES
 
   module _ (p q r : Nameless) (first : HasType items p bool_type) (second : HasType items q bool_type) (third : HasType items r bool_type) where
-    at_three : IsKnown items DisjCases → Derives items (only_hyp (disjunction p q)) (either p q r)
+    at_three : IsGeneralTheorem items DisjCases → Derives items (only_hyp (disjunction p q)) (either p q r)
     at_three known =
         subst (Derived items) (cases_are p q r (typed_whole items p bool_type first) (typed_whole items q bool_type second) (typed_whole items r bool_type third))
         (by_inst (general DisjCases).hyps (general DisjCases).concl ((p, boolean (codes "p")) ∷ (q, boolean (codes "q")) ∷ (r, boolean (codes "r")) ∷ [])
         (λ i. is_type_at (first i) bool_type && (is_type_at (second i) bool_type && (is_type_at (third i) bool_type && true))) known.derives)
 
     pub cases_derived :
-        (a : Sequent) (bs cs : Hyps) (s : Nameless) → CasesKnown items → a.concl ≡ disjunction p q → strip r ≡ strip s → Derived items a → Derives items bs r → Derives items cs s →
+        (a : Sequent) (bs cs : Hyps) (s : Nameless) → CasesTheorems items → a.concl ≡ disjunction p q → strip r ≡ strip s → Derived items a → Derives items bs r → Derives items cs s →
         Derives items (set.union (set.union a.hyps (set.remove bs (strip p))) (set.remove cs (strip q))) r
     cases_derived a bs cs s known is same d e f =
         let fourth : HasType items s bool_type = formula cs s f in
@@ -98,7 +98,7 @@ module _ (items : Items) where
   -- ---- SPEC, EXISTS
 
   -- a general theorem has a derivation at each predicate and each member of its type
-  at_member : (a : TypeTree) (f t : Nameless) (which : Lemma) → is_type items a ≡ true → HasType items f (fun_type a bool_type) → HasType items t a → IsKnown items which → Derived items (put_at a f t (general which))
+  at_member : (a : TypeTree) (f t : Nameless) (which : Lemma) → is_type items a ≡ true → HasType items f (fun_type a bool_type) → HasType items t a → IsGeneralTheorem items which → Derived items (put_at a f t (general which))
   at_member a f t which stands typed member known =
       let types : List (TypeTree × List ℕ) = (a, codes "A") ∷ [] in
       by_inst (hyps_image (types_inst types) (general which).hyps) (types_inst types (general which).concl) ((f, (codes "P", fun_type a bool_type)) ∷ (t, (codes "x", a)) ∷ [])
@@ -123,14 +123,14 @@ module _ (items : Items) where
     stands : is_type items v.1 ≡ true
     stands = domain_stands items v.1 bool_type (bind v n) function
 
-    pub spec_derived : (a : Sequent) → IsKnown items Spec → a.concl ≡ app (fixed (codes "!") (quantifier_type v.1)) (bind v n) → Derived items a → Derives items a.hyps (m_with t v n)
+    pub spec_derived : (a : Sequent) → IsGeneralTheorem items Spec → a.concl ≡ app (fixed (codes "!") (quantifier_type v.1)) (bind v n) → Derived items a → Derives items a.hyps (m_with t v n)
     unfolding at_term
     spec_derived a known is d =
         let every = app (fixed (codes "!") (quantifier_type v.1)) (bind v n) in
         let rule : Derives items (only_hyp every) at_term = subst (Derived items) (specialization_is v.1 (bind v n) t (typed_whole items (bind v n) (fun_type v.1 bool_type) function) closed) (at_member v.1 (bind v n) t Spec stands function member known) in
         from_equivalence items at_term (m_with t v n) (sequent_of a.hyps at_term) reduces refl (from_one items every at_term a rule (ap strip (sym is)) d)
 
-    pub exists_derived : (a : Sequent) → IsKnown items Exists → strip (m_with t v n) ≡ strip a.concl → Derived items a → Derives items a.hyps (exists_in v.1 (bind v n))
+    pub exists_derived : (a : Sequent) → IsGeneralTheorem items Exists → strip (m_with t v n) ≡ strip a.concl → Derived items a → Derives items a.hyps (exists_in v.1 (bind v n))
     unfolding at_term
     exists_derived a known fits d =
         let back : Derives items no_hyps (equivalence (m_with t v n) at_term) = sym_derived items no_hyps bool_type at_term (m_with t v n) (formula no_hyps (equivalence at_term (m_with t v n)) reduces) reduces in

@@ -111,24 +111,24 @@ lemma_at which p q =
 abbrev pub general : Lemma → Sequent
 general which = lemma_at which (letter (codes "p")) (letter (codes "q"))
 
--- the general theorem has a derivation over the basis
-abbrev pub IsKnown : Items → Lemma → Type 0
-IsKnown basis which = IsTheorem (theorem_on basis (general which))
+-- the general theorem is a theorem over the basis, made or not
+abbrev pub IsGeneralTheorem : Items → Lemma → Type 0
+IsGeneralTheorem basis which = IsTheorem (theorem_on basis (general which))
 
--- what DISCH, GEN and DISJ_CASES go by
-pub record DischKnown (basis : Items) : Type 0 where
-  pub both : IsKnown basis Both
-  pub first : IsKnown basis Conjunct1
-  pub implied : IsKnown basis Disch
+-- the general theorems that the derivations of DISCH, GEN and DISJ_CASES begin with
+pub record DischTheorems (basis : Items) : Type 0 where
+  pub both : IsGeneralTheorem basis Both
+  pub first : IsGeneralTheorem basis Conjunct1
+  pub implied : IsGeneralTheorem basis Disch
 
-pub record GenKnown (basis : Items) : Type 0 where
-  pub proved : IsKnown basis EqtIntro
-  pub every : IsKnown basis Gen
+pub record GenTheorems (basis : Items) : Type 0 where
+  pub proved : IsGeneralTheorem basis EqtIntro
+  pub every : IsGeneralTheorem basis Gen
 
-pub record CasesKnown (basis : Items) : Type 0 where
-  pub disch : DischKnown basis
-  pub mp : IsKnown basis Mp
-  pub cases : IsKnown basis DisjCases
+pub record CasesTheorems (basis : Items) : Type 0 where
+  pub disch : DischTheorems basis
+  pub mp : IsGeneralTheorem basis Mp
+  pub cases : IsGeneralTheorem basis DisjCases
 
 -- the theorems that were made, each with its name, are those of a basis
 abbrev pub AreGeneral : Items → List (Lemma × Theorem) → Type 0

@@ -1,4 +1,4 @@
-//! The rules by general theorems, for callers that know that they apply: each takes the steps of the kernel that HOL Light's takes (bool.ml).
+//! The rules by general theorems, for callers that know that they apply: each has a derivation by the kernel's rules from these (bool.ml).
 ghost use Rattle.std.specs.Prelude.{◌≡◌, [], true, false, IfOk, IsSome, Some};
 ghost use Rattle.std.specs.FinSet as set;
 ghost use Rattle.hol_terms.specs.Nameless.{nameless};

@@ -31,7 +31,7 @@ use hol_kernel::{Basis, Thm};
 use hol_terms::Term;
 use std::alloc::{AllocError, Global};
 
-/// A general theorem, by the name of its rule.
+/// A general theorem, by the name of the rule that has its derivation from it; DISCH has its from two, of which one is `Both`.
 #[derive(Clone, Copy, PartialEq, Eq)]
 pub(crate) enum Lemma {
     /// `|- p <=> (p <=> T)`.

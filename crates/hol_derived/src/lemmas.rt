@@ -12,7 +12,7 @@ ghost use Rattle.hol_kernel.specs.Rules.{sequent_image};
 ghost use Rattle.hol_kernel.specs.Sequent.{no_hyps, sequent_of};
 ghost use Rattle.hol_kernel.specs.Theorem.{theorem_on};
 ghost use Rattle.hol_kernel.specs.Typing.{HasType, is_type};
-ghost use Rattle.hol_derived.specs.Lemmas.{general, put_predicate, IsKnown, DischKnown, GenKnown, CasesKnown};
+ghost use Rattle.hol_derived.specs.Lemmas.{general, put_predicate, IsGeneralTheorem, DischTheorems, GenTheorems, CasesTheorems};
 
 use crate::lemma::{LEMMAS, Lemma, derived};
 use crate::signs::Signs;
@@ -28,7 +28,7 @@ use std::rc::Rc;
 
 /// The general theorems of the rules over one basis. Each is derived when a rule first needs it, and then kept, so that who uses many rules pays for their
 /// derivations once; who works over many bases has them all made over no items, and brings them to each. Rules have their derivations from them, and make nothing
-/// of them. `|- T` is kept beside them, and the constants that rules make formulas with.
+/// of them, but CHOOSE, which takes an instance. `|- T` is kept beside them, and the constants that rules make formulas with.
 #[derive(Drop)]
 pub struct Lemmas {
     basis: Basis,
@@ -126,7 +126,7 @@ impl Lemmas {
 
     // Whether the general theorem was made: then it is a theorem.
     fn is_made(&self, which: Lemma) -> bool
-        ensures { IsTrue result → IsKnown self.now which }
+        ensures { IsTrue result → IsGeneralTheorem self.now which }
     {
         match self.find(which) {
             Some(th) => {
@@ -139,7 +139,7 @@ impl Lemmas {
 
     /// Makes the general theorem where it isn't made yet, so that there is one.
     pub(crate) fn establish(&mut self, alloc: Global, which: Lemma) -> Result<(), AllocError>
-        ensures established { IfOk result (λ _. IsKnown self.old which) }
+        ensures established { IfOk result (λ _. IsGeneralTheorem self.old which) }
         ensures kept { self.new ≡ self.old }
     {
         if self.is_made(which) {
@@ -153,7 +153,7 @@ impl Lemmas {
 
     /// Makes what DISCH goes by, as [`Lemmas::establish`].
     pub(crate) fn establish_disch(&mut self, alloc: Global) -> Result<(), AllocError>
-        ensures established { IfOk result (λ _. DischKnown self.old) }
+        ensures established { IfOk result (λ _. DischTheorems self.old) }
         ensures kept { self.new ≡ self.old }
     {
         self.establish(alloc, Lemma::Both)?;
@@ -163,7 +163,7 @@ impl Lemmas {
 
     /// Makes what GEN goes by, as [`Lemmas::establish`].
     pub(crate) fn establish_gen(&mut self, alloc: Global) -> Result<(), AllocError>
-        ensures established { IfOk result (λ _. GenKnown self.old) }
+        ensures established { IfOk result (λ _. GenTheorems self.old) }
         ensures kept { self.new ≡ self.old }
     {
         self.establish(alloc, Lemma::EqtIntro)?;
@@ -172,7 +172,7 @@ impl Lemmas {
 
     /// Makes what DISJ_CASES goes by, as [`Lemmas::establish`].
     pub(crate) fn establish_cases(&mut self, alloc: Global) -> Result<(), AllocError>
-        ensures established { IfOk result (λ _. CasesKnown self.old) }
+        ensures established { IfOk result (λ _. CasesTheorems self.old) }
         ensures kept { self.new ≡ self.old }
     {
         self.establish_disch(alloc)?;

@@ -1,4 +1,4 @@
--- A mark's word is reached through a `&` with the key of its name, out of a mask E, and shut again at any number. Assumes `Logic`.
+-- A mark's byte is reached through a `&` with the key of its name, out of a mask E, and shut again at any number. Assumes `Logic`.
 use Rattle.std.proofs.Common.{◌≡◌, ℕ, true, List, [], ◌∷◌, refl, ap, ◌∙◌, subst, w8}
 use seplogic.Ra.Ura.{Ura}
 use mir.Syntax.{Ty, ty_int}
@@ -27,14 +27,14 @@ Fields = inside.the_row
 abbrev pub mark_type : Ty
 mark_type = lone Fields.mir
 
-abbrev pub byte : Member
-byte = record { row = u8-field.row; ty = ty_int w8 }
+abbrev pub byte_field : Member
+byte_field = record { row = u8-field.row; ty = ty_int w8 }
 
-abbrev pub word : ℕ → Val
-word n = round (vint w8 n)
+abbrev pub byte : ℕ → Val
+byte n = round (vint w8 n)
 
-abbrev pub IsWord : ℕ → Type 0
-IsWord n = Good (ty_int w8) (vint w8 n)
+abbrev pub IsByte : ℕ → Type 0
+IsByte n = Good (ty_int w8) (vint w8 n)
 
 module _ {M : Type 1} {𝓤 : Ura M} (𝓛 : Logic 𝓤) (κ : Lft) (q : Share) (E : Mask) (γ : GName) (b o : ℕ) where
   open 𝓛 use {H, A}
@@ -56,21 +56,21 @@ module _ {M : Type 1} {𝓤 : Ura M} (𝓛 : Logic 𝓤) (κ : Lft) (q : Share) 
 
   module _ {K : Type 0} {Γ : List (Item 𝓤)} {G : Goal 𝓤 H} where
     pub opens_in : K → Soaks G → E (γ, 0) ≡ true
-        → ((n : ℕ) → IsWord n → Seq K 𝓛 (‵ (fat full_share mark_type b o (word n)) ∷ ‵ (ftok (less E key)) ∷ Shut ∷ Γ) G)
+        → ((n : ℕ) → IsByte n → Seq K 𝓛 (‵ (fat full_share mark_type b o (byte n)) ∷ ‵ (ftok (less E key)) ∷ Shut ∷ Γ) G)
         → Seq K 𝓛 (‵ (na_bor κ (γ, 0) (fields_at Fields b o)) ∷ ‵ (flft κ q) ∷ ‵ (ftok E) ∷ Γ) G
     opens_in t z has k =
         use3 𝓛 (later (‵ P ⊛ ‵ (ftok (less E key)) ⊛ raw (wand 𝓤 Held Both))) (na_acc_in 𝓛 κ ((κ, q) ∷ []) E key P (Incl-refl κ) has) $ await t z $ split3 t $
-        fpick t (λ vs. fsplit t $ move t (1 ∷ []) $ fpick t (λ i. unwraps byte t (u8-laws.lawful 𝓛) [] [] i.word vs (λ v good e. fsplit t $ feq_l t (λ ev. drop t $
+        fpick t (λ vs. fsplit t $ move t (1 ∷ []) $ fpick t (λ i. unwraps byte_field t (u8-laws.lawful 𝓛) [] [] i.byte vs (λ v good e. fsplit t $ feq_l t (λ ev. drop t $
         rewrite t 0 (λ (us : List Val). ‵ (cell_at full_share Fields.mir us b o)) (e ∙ ap (λ (us : List Val). round (only us) ∷ []) ev) refl $
-        use1 𝓛 (‵ (fat full_share mark_type b o (word i.word))) (𝓛.laws.raw_at full_share mark_type b o (word i.word)) $
-        k i.word (subst (Good (ty_int w8)) (ap only ev) good)))))
+        use1 𝓛 (‵ (fat full_share mark_type b o (byte i.byte))) (𝓛.laws.raw_at full_share mark_type b o (byte i.byte)) $
+        k i.byte (subst (Good (ty_int w8)) (ap only ev) good)))))
 
-    pub shuts_in : K → Soaks G → (n : ℕ) → IsWord n
-        → Step K 𝓛 (‵ (flft κ q) ∷ ‵ (ftok E) ∷ Γ) G (‵ (fat full_share mark_type b o (word n)) ∷ ‵ (ftok (less E key)) ∷ Shut ∷ Γ) G
+    pub shuts_in : K → Soaks G → (n : ℕ) → IsByte n
+        → Step K 𝓛 (‵ (flft κ q) ∷ ‵ (ftok E) ∷ Γ) G (‵ (fat full_share mark_type b o (byte n)) ∷ ‵ (ftok (less E key)) ∷ Shut ∷ Γ) G
     shuts_in t z n good = step (λ s.
-        let i : Fields.Denot = record { word = n } in
-        use1 𝓛 (‵ (cell_at full_share Fields.mir (word n ∷ []) b o)) (𝓛.laws.at_raw full_share mark_type b o (word n)) $
-        use0 𝓛 (‵ (byte.row.own_val n (vint w8 n ∷ []))) (makes_shadow 𝓛 (byte.row.own_val n (vint w8 n ∷ [])) (tt, tt) (refl, good.1.fits)) $
-        use1 𝓛 (‵ (Fields.own_val i (word n ∷ []))) (wraps byte 𝓛 [] [] n (vint w8 n)) $ fpack t Fields.Denot (λ j. Fields.own_val j (word n ∷ [])) i $ move t (1 ∷ 0 ∷ []) $ fjoin t $
-        fpack t (List Val) (λ us. fsep (cell_at full_share Fields.mir us b o) (contents Fields us)) (word n ∷ []) $ join t $
+        let i : Fields.Denot = record { byte = n } in
+        use1 𝓛 (‵ (cell_at full_share Fields.mir (byte n ∷ []) b o)) (𝓛.laws.at_raw full_share mark_type b o (byte n)) $
+        use0 𝓛 (‵ (byte_field.row.own_val n (vint w8 n ∷ []))) (makes_shadow 𝓛 (byte_field.row.own_val n (vint w8 n ∷ [])) (tt, tt) (refl, good.1.fits)) $
+        use1 𝓛 (‵ (Fields.own_val i (byte n ∷ []))) (wraps byte_field 𝓛 [] [] n (vint w8 n)) $ fpack t Fields.Denot (λ j. Fields.own_val j (byte n ∷ [])) i $ move t (1 ∷ 0 ∷ []) $ fjoin t $
+        fpack t (List Val) (λ us. fsep (cell_at full_share Fields.mir us b o) (contents Fields us)) (byte n ∷ []) $ join t $
         use2 𝓛 (later (‵ (flft κ q) ⊛ ‵ (ftok E))) (apply∗ 𝓤 Held Both) $ await t z $ split t $ s)

@@ -12,7 +12,7 @@ use std::marker::{Move, Owns};
 /// which never changes.
 #[derive(Drop)]
 pub struct Mark {
-    word: u8,
+    byte: u8,
 }
 
 impl Owns for Mark {
@@ -33,7 +33,7 @@ impl Mark {
         ghost says: { Gv }
         ensures { result ≡ says }
     {
-        Mark { word: 0 }
+        Mark { byte: 0 }
     }
 
     /// A mark that says something of the value, which the call picks.
@@ -51,8 +51,8 @@ impl Mark {
     pub fn same(&self, other: &Mark) -> bool
         ensures { result ≡ true → self.now ≡ other.now }
     {
-        let mine = &raw const self.word as *mut u8;
-        let its = &raw const other.word as *mut u8;
+        let mine = &raw const self.byte as *mut u8;
+        let its = &raw const other.byte as *mut u8;
         unsafe {
             mine.write(0);
             its.write(1);

@@ -9,21 +9,24 @@ use std::marker::Model;
 
 /// Types for type variables: pairs, of which the first of a name counts.
 ///
-/// The instance that was made last is kept, since a term has few types, each at many places. So their instances share their nodes too.
+/// The instance that was made last is kept, and shared where the same type comes next: a term has few types, each at many places.
 #[derive(Drop)]
 pub(crate) struct Types<'a> {
     pairs: &'a [(Ty, Name)],
     // The names of the pairs are among these.
     names: NameFilter,
-    last: Option<Instance>,
+    last: Option<TypeInstance>,
 }
 
-// A type that is no variable, and its instance.
+// A type that is no variable and has at most 20,000 nodes, so that it is compared in bounded time, and its instance.
 #[derive(Drop)]
-struct Instance {
-    of: Ty,
+struct TypeInstance {
     ty: Ty,
+    instance: Ty,
 }
+
+// The most nodes of a type whose instance is kept.
+const LARGEST_KEPT: u32 = 20_000;
 
 impl<'a> Model for Types<'a> {
     ghost use Rattle.std.specs.Prelude.{◌≡◌, ℕ, List, IfSome};
@@ -39,7 +42,7 @@ impl<'a> Model for Types<'a> {
 
     ghost view = { λ a. a.pairs.now };
 
-    ghost invariant = { λ a. (a.names.bits ≡ pairs_filter a.pairs.now) × IfSome a.last (λ i. i.ty ≡ type_subst a.pairs.now i.of) };
+    ghost invariant = { λ a. (a.names.bits ≡ pairs_filter a.pairs.now) × IfSome a.last (λ i. i.instance ≡ type_subst a.pairs.now i.ty) };
 }
 
 impl<'a> Types<'a> {
@@ -71,15 +74,15 @@ impl<'a> Types<'a> {
             return ty.copy();
         }
         if let Some(last) = &self.last {
-            if last.of.same(ty) {
-                return last.ty.copy();
+            if last.ty.same(ty) {
+                return last.instance.copy();
             }
         }
         let made = ty.subst(alloc, self.pairs)?;
-        if ty.size() > 1 {
-            self.last = Some(Instance {
-                of: ty.copy()?,
-                ty: made.copy()?,
+        if (2..=LARGEST_KEPT).contains(&ty.size()) {
+            self.last = Some(TypeInstance {
+                ty: ty.copy()?,
+                instance: made.copy()?,
             });
         }
         Ok(made)

@@ -201,7 +201,7 @@ impl Term {
         Term::from_node(alloc, node, ty)
     }
 
-    // The term with this top node, whose type is `ty`.
+    // The term with this top node, whose type is `ty`. Applications, of which there are most, are made at once (`application_to`).
     fn from_node(alloc: Global, node: TermNode, ty: Ty) -> Result<Term, AllocError>
         requires { named_type (named_of node) ≡ Some ty }
         ensures { IfOk result (λ t. t ≡ named_of node) }

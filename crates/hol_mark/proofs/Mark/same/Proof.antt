@@ -1,4 +1,4 @@
--- `same` finds both words at once where the marks have two names, and else one after the other, and then the name says that they say the same. Assumes `Logic`.
+-- `same` finds both bytes at once where the marks have two names, and else one after the other, and then the name says that they say the same. Assumes `Logic`.
 use Rattle.std.proofs.Common.{◌≡◌, Bool, true, false, List, [], ◌∷◌, ◌++◌, refl, sym, eqb, not, lit<}
 use mathlib.Core.Logic.{dite}
 use native.Mathlib.Decide.{ℕ_discrete}
@@ -24,17 +24,17 @@ use Rattle.std.proofs.alloc.Shapes.{after}
 use Rattle.std.proofs.raw_atomic.Walks.{leaves}
 use Rattle.hol_mark.specs.Mark.{fields_at}
 use Rattle.hol_mark.proofs.Walks.{slot_at, with_token, proved_with_token}
-use Rattle.hol_mark.proofs.Steps.{Fields, IsWord, opens_in, shuts_in}
+use Rattle.hol_mark.proofs.Steps.{Fields, IsByte, opens_in, shuts_in}
 use Rattle.hol_mark.specs.contracts.Mark.same.{ended, clauses}
 use Rattle.hol_mark.specs.contracts.Mark.same.Key.{name as #self}
 use Rattle.hol_mark.proofs.Mark.same.Statement.{statement}
 use Rattle.hol_mark.proofs.Mark.same.Code as compiled
 use Rattle.hol_mark.proofs.Mark.same.Code.{code}
 
-is_0 : IsWord 0
+is_0 : IsByte 0
 is_0 = (tt, record { fits = lit< tt })
 
-is_1 : IsWord 1
+is_1 : IsByte 1
 is_1 = (tt, record { fits = lit< tt })
 
 abbrev stays : Stays ended.signature.params ended.kept
@@ -84,7 +84,7 @@ same_spec 𝓤 𝓛 𝓜 𝓡 wired =
     qed 𝓛 (Has γ η) ∵
     enter ! C Λ fn (vptr b o ∷ vptr d e ∷ []) Post $ alloc_all ! (λ l. pass_all ! refl ((tt, tt), ((tt, tt), tt)) $ let En : Env 𝓤 H = env fn.locals l in
     opens_in 𝓛 κ q every γ b o ! tt refl (λ n is-n. move ! (3 ∷ 4 ∷ 1 ∷ []) $ opens_in 𝓛 μ r E η d e ! tt (less_other every (γ, 0) (η, 0) (λ (p : ◌≡◌ {A = Key} (γ, 0) (η, 0)). apart (λ i. (p i).0))) (λ m is-m.
-    -- [the second word, the token, what shuts it; the first, what shuts it]
+    -- [the second byte, the token, what shuts it; the first, what shuts it]
     sets ! (addr ! (through ! refl (fld ! refl (stop !)))) refl (tt, tt) $ sets ! (addr ! (through ! refl (fld ! refl (stop !)))) refl (tt, tt) $ first ! $ blocks ! $
     assigns ! (of_opd ! (lit ! tt)) (through ! refl (stop !)) (store_in ! 3 (sub ! 0 refl (whole !)) is_0) $ assigns ! (of_opd ! (lit ! tt)) (through ! refl (stop !)) (store_in ! 0 (sub ! 0 refl (whole !)) is_1) $
     sets ! (of_opd ! (load ! (through ! refl (stop !)) (look_in ! 3 (sub ! 0 refl (whole !))))) refl is_0 $

@@ -13,7 +13,7 @@ use Rattle.hol_kernel.proofs.Sound.{second_over}
 use Rattle.hol_equal.proofs.Outcomes.{became}
 use Rattle.hol_equal.specs.Applied.{lhs, rhs}
 use Rattle.hol_derived.specs.Applied.{by_cases}
-use Rattle.hol_derived.specs.Lemmas.{CasesKnown}
+use Rattle.hol_derived.specs.Lemmas.{CasesTheorems}
 use Rattle.hol_derived.proofs.Connected.{operands_typed, operands_found, operands_are}
 use Rattle.hol_derived.proofs.QuantifierDerivations.{cases_derived}
 use Rattle.hol_derived.proofs.lemmas.Lemmas.by_cases.Goals as goal
@@ -33,7 +33,7 @@ closed-requires c =
     let p = lhs a.concl in
     let q = rhs a.concl in
     let are : (nameless [] c.in-Some.p.now ≡ p) × (nameless [] c.in-Some.q.now ≡ q) = operands_are (nameless [] c.in-Some.p.now) (nameless [] c.in-Some.q.now) p q (dest_disj (nameless [] c.concl.result.now)) c.in-Some.ensures.parts (ap dest_disj (c.concl.ensures.concl ∙ c.requires.is)) in
-    let known : CasesKnown B = subst (λ (k : Items). CasesKnown k) c.requires.one_basis c.in_ok-establish_cases.ensures.established in
+    let known : CasesTheorems B = subst (λ (k : Items). CasesTheorems k) c.requires.one_basis c.in_ok-establish_cases.ensures.established in
     let types = operands_typed B (codes "\\/") p q bool_type (subst (λ (n : Nameless). HasType B n bool_type) c.requires.is c.well_typed.ensures.conclusion) in
     let third : HasType B b.concl bool_type = subst (λ (k : Items). HasType k b.concl bool_type) (sym c.requires.same_basis) c.well_typed-2.ensures.conclusion in
     along_nameless B c.basis.result.now (set.union (set.union a.hyps (set.remove b.hyps (strip p))) (set.remove d.hyps (strip q))) c.in_ok-hyps.hyps (b.concl) c.in_ok-concl.concl c.basis.ensures

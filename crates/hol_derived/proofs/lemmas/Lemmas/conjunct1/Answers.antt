@@ -11,7 +11,7 @@ use Rattle.hol_kernel.specs.Sequent.{sequent_of}
 use Rattle.hol_kernel.specs.Theorem.{theorem_over, over}
 use Rattle.hol_kernel.specs.Typing.{HasType}
 use Rattle.hol_kernel.proofs.InstRules.{along_nameless}
-use Rattle.hol_derived.specs.Lemmas.{IsKnown}
+use Rattle.hol_derived.specs.Lemmas.{IsGeneralTheorem}
 use Rattle.hol_derived.specs.Rules.{conjunct1_of}
 use Rattle.hol_derived.specs.declared.lemma.Lemma.TheVariants.{Conjunct1}
 use Rattle.hol_derived.proofs.Connected.{operands_typed}
@@ -33,7 +33,7 @@ closed-requires c =
     let q = nameless [] c.in-Some._q.now in
     let found : dest_conj a.concl ≡ Some (p, q) = ap dest_conj (sym c.concl.ensures.concl) ∙ c.in-Some.ensures.parts in
     let parts : a.concl ≡ conjunction p q = dest_binary_is (codes "/\\") connective_type a.concl (p, q) found in
-    let known : IsKnown B Conjunct1 = subst (λ (k : Items). IsKnown k Conjunct1) c.requires.one_basis c.in_ok-establish.ensures.established in
+    let known : IsGeneralTheorem B Conjunct1 = subst (λ (k : Items). IsGeneralTheorem k Conjunct1) c.requires.one_basis c.in_ok-establish.ensures.established in
     let types = operands_typed B (codes "/\\") p q bool_type (subst (λ (u : Nameless). HasType B u bool_type) parts c.well_typed.ensures.conclusion) in
     along_nameless B c.basis.result.now (a.hyps) c.in_ok-hyps.hyps (p) c.in_ok-concl.concl c.basis.ensures
     (c.in_ok-hyps.ensures ∙ c.hypotheses.ensures)

@@ -12,7 +12,7 @@ use Rattle.hol_terms.proofs.Typing.{type_outside}
 use Rattle.hol_kernel.proofs.Variables.{known_typed}
 use Rattle.hol_kernel.proofs.Declared.{has_type_is}
 use Rattle.hol_kernel.proofs.InstRules.{along_nameless}
-use Rattle.hol_derived.specs.Lemmas.{IsKnown}
+use Rattle.hol_derived.specs.Lemmas.{IsGeneralTheorem}
 use Rattle.hol_derived.specs.Rules.{contr_of}
 use Rattle.hol_derived.specs.declared.lemma.Lemma.TheVariants.{Contr}
 use Rattle.hol_derived.proofs.Derivations.{contr_derived}
@@ -27,7 +27,7 @@ closed-requires c =
     let p = nameless [] c.args.p.now in
     let false_one : is_falsity a.concl ≡ true = holds (over B (contr_of B p a)) (is_falsity a.concl) c.requires.applies (λ e. ap (over B) (contr_other B p a e)) in
     let has : has_type B p bool_type ≡ true = holds (over B (contr_of B p a)) (has_type B p bool_type) c.requires.applies (λ e. ap (over B) (contr_none B p a e)) in
-    let known : IsKnown B Contr = subst (λ (k : Items). IsKnown k Contr) c.requires.one_basis c.in_ok-establish.ensures.established in
+    let known : IsGeneralTheorem B Contr = subst (λ (k : Items). IsGeneralTheorem k Contr) c.requires.one_basis c.in_ok-establish.ensures.established in
     along_nameless B c.basis.result.now (a.hyps) c.in_ok-hyps.hyps (p) c.in_ok-concl.concl c.basis.ensures
     (c.in_ok-hyps.ensures ∙ c.hypotheses.ensures)
     (ap (nameless []) c.in_ok-concl.ensures)

@@ -13,7 +13,7 @@ use Rattle.hol_kernel.proofs.Variables.{known_typed}
 use Rattle.hol_kernel.proofs.Declared.{has_type_is}
 use Rattle.hol_kernel.proofs.InstRules.{along_nameless}
 use Rattle.hol_derived.specs.Applied.{discharged}
-use Rattle.hol_derived.specs.Lemmas.{DischKnown}
+use Rattle.hol_derived.specs.Lemmas.{DischTheorems}
 use Rattle.hol_derived.specs.Rules.{disch_of}
 use Rattle.hol_derived.proofs.Derivations.{disch_derived}
 use Rattle.hol_derived.proofs.Instances.{holds, gives_by}
@@ -26,7 +26,7 @@ closed-requires c =
     let a = c.args.a.now.sequent in
     let p = nameless [] c.args.p.now in
     let has : has_type B p bool_type ≡ true = holds (over B (disch_of B p a)) (has_type B p bool_type) c.requires.applies (λ e. ap (over B) (disch_none B p a e)) in
-    let known : DischKnown B = subst (λ (k : Items). DischKnown k) c.requires.one_basis c.in_ok-establish_disch.ensures.established in
+    let known : DischTheorems B = subst (λ (k : Items). DischTheorems k) c.requires.one_basis c.in_ok-establish_disch.ensures.established in
     along_nameless B c.basis.result.now (set.remove a.hyps (strip p)) c.in_ok-hyps.hyps (implication p a.concl) c.in_ok-concl.concl c.basis.ensures
     (c.in_ok-hyps.ensures ∙ ap (λ (hs : Hyps). set.remove hs (strip p)) c.hypotheses.ensures)
     (ap (nameless []) c.in_ok-concl.ensures.is ∙ ap (λ (n : Nameless). implication p n) c.concl.ensures.concl)

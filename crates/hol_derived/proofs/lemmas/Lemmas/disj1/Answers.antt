@@ -11,7 +11,7 @@ use Rattle.hol_kernel.proofs.Variables.{known_typed}
 use Rattle.hol_kernel.proofs.Declared.{has_type_is}
 use Rattle.hol_kernel.proofs.InstRules.{along_nameless}
 use Rattle.hol_derived.specs.Applied.{with_right}
-use Rattle.hol_derived.specs.Lemmas.{IsKnown}
+use Rattle.hol_derived.specs.Lemmas.{IsGeneralTheorem}
 use Rattle.hol_derived.specs.Rules.{disj1_of}
 use Rattle.hol_derived.specs.declared.lemma.Lemma.TheVariants.{Disj1}
 use Rattle.hol_derived.proofs.Derivations.{disj1_derived}
@@ -25,7 +25,7 @@ closed-requires c =
     let a = c.args.a.now.sequent in
     let q = nameless [] c.args.q.now in
     let has : has_type B q bool_type ≡ true = holds (over B (disj1_of B a q)) (has_type B q bool_type) c.requires.applies (λ e. ap (over B) (disj1_none B a q e)) in
-    let known : IsKnown B Disj1 = subst (λ (k : Items). IsKnown k Disj1) c.requires.one_basis c.in_ok-establish.ensures.established in
+    let known : IsGeneralTheorem B Disj1 = subst (λ (k : Items). IsGeneralTheorem k Disj1) c.requires.one_basis c.in_ok-establish.ensures.established in
     along_nameless B c.basis.result.now (a.hyps) c.in_ok-hyps.hyps (disjunction a.concl q) c.in_ok-concl.concl c.basis.ensures
     (c.in_ok-hyps.ensures ∙ c.hypotheses.ensures)
     (ap (nameless []) c.in_ok-concl.ensures.is ∙ ap (λ (n : Nameless). disjunction n q) c.concl.ensures.concl)

@@ -11,7 +11,7 @@ use Rattle.hol_kernel.proofs.Variables.{known_typed}
 use Rattle.hol_kernel.proofs.Declared.{has_type_is}
 use Rattle.hol_kernel.proofs.InstRules.{along_nameless}
 use Rattle.hol_derived.specs.Applied.{with_left}
-use Rattle.hol_derived.specs.Lemmas.{IsKnown}
+use Rattle.hol_derived.specs.Lemmas.{IsGeneralTheorem}
 use Rattle.hol_derived.specs.Rules.{disj2_of}
 use Rattle.hol_derived.specs.declared.lemma.Lemma.TheVariants.{Disj2}
 use Rattle.hol_derived.proofs.Derivations.{disj2_derived}
@@ -25,7 +25,7 @@ closed-requires c =
     let a = c.args.a.now.sequent in
     let p = nameless [] c.args.p.now in
     let has : has_type B p bool_type ≡ true = holds (over B (disj2_of B p a)) (has_type B p bool_type) c.requires.applies (λ e. ap (over B) (disj2_none B a p e)) in
-    let known : IsKnown B Disj2 = subst (λ (k : Items). IsKnown k Disj2) c.requires.one_basis c.in_ok-establish.ensures.established in
+    let known : IsGeneralTheorem B Disj2 = subst (λ (k : Items). IsGeneralTheorem k Disj2) c.requires.one_basis c.in_ok-establish.ensures.established in
     along_nameless B c.basis.result.now (a.hyps) c.in_ok-hyps.hyps (disjunction p a.concl) c.in_ok-concl.concl c.basis.ensures
     (c.in_ok-hyps.ensures ∙ c.hypotheses.ensures)
     (ap (nameless []) c.in_ok-concl.ensures.is ∙ ap (λ (n : Nameless). disjunction p n) c.concl.ensures.concl)

@@ -13,7 +13,7 @@ use Rattle.hol_kernel.proofs.InstRules.{along_nameless}
 use Rattle.hol_equal.proofs.Outcomes.{became}
 use Rattle.hol_equal.specs.Applied.{rand}
 use Rattle.hol_derived.specs.Applied.{false_of}
-use Rattle.hol_derived.specs.Lemmas.{IsKnown}
+use Rattle.hol_derived.specs.Lemmas.{IsGeneralTheorem}
 use Rattle.hol_derived.specs.declared.lemma.Lemma.TheVariants.{EqfIntro}
 use Rattle.hol_derived.proofs.Disjunctions.{argument_typed}
 use Rattle.hol_derived.proofs.Derivations.{eqf_intro_derived}
@@ -32,7 +32,7 @@ closed-requires c =
     let p = nameless [] c.in-Some.p.now in
     let found : dest_neg a.concl ≡ Some p = ap dest_neg (sym c.concl.ensures.concl) ∙ c.in-Some.ensures.part in
     let parts : a.concl ≡ negation p = dest_unary_is (codes "~") negation_type a.concl p found in
-    let known : IsKnown B EqfIntro = subst (λ (k : Items). IsKnown k EqfIntro) c.requires.one_basis c.in_ok-establish.ensures.established in
+    let known : IsGeneralTheorem B EqfIntro = subst (λ (k : Items). IsGeneralTheorem k EqfIntro) c.requires.one_basis c.in_ok-establish.ensures.established in
     let typed : HasType B p bool_type = argument_typed B (codes "~") bool_type bool_type bool_type p (subst (λ (u : Nameless). HasType B u bool_type) parts c.well_typed.ensures.conclusion) in
     along_nameless B c.basis.result.now (a.hyps) c.in_ok-hyps.hyps (equivalence p falsity) c.in_ok-concl.concl c.basis.ensures
     (c.in_ok-hyps.ensures ∙ c.hypotheses.ensures)

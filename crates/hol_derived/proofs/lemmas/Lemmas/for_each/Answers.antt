@@ -9,7 +9,7 @@ use Rattle.hol_kernel.specs.Theorem.{theorem_on, theorem_over}
 use Rattle.hol_kernel.proofs.InstRules.{along_nameless}
 use Rattle.hol_equal.proofs.Outcomes.{became}
 use Rattle.hol_derived.specs.Applied.{generalized}
-use Rattle.hol_derived.specs.Lemmas.{GenKnown}
+use Rattle.hol_derived.specs.Lemmas.{GenTheorems}
 use Rattle.hol_derived.proofs.QuantifierDerivations.{gen_derived}
 use Rattle.hol_derived.proofs.lemmas.Lemmas.for_each.Goals as goal
 
@@ -18,7 +18,7 @@ closed-requires c =
     let B = c.args.a.now.basis in
     let a = c.args.a.now.sequent in
     let v = c.args.v.now in
-    let known : GenKnown B = subst (λ (k : Items). GenKnown k) c.requires.one_basis c.in_ok-establish_gen.ensures.established in
+    let known : GenTheorems B = subst (λ (k : Items). GenTheorems k) c.requires.one_basis c.in_ok-establish_gen.ensures.established in
     along_nameless B c.basis.result.now (a.hyps) c.in_ok-same.same (app (fixed (codes "!") (quantifier_type v.1)) (bind v a.concl)) c.in_ok-concl.concl c.basis.ensures
     (c.in_ok-same.ensures ∙ c.hypotheses.ensures)
     (ap (nameless []) c.in_ok-concl.ensures.is ∙ (λ i. universal (record { base = base_of v.0; domain = v.1; body = close_under [] v c.concl.result.now i })) ∙ ap (λ (n : Nameless). app (fixed (codes "!") (quantifier_type v.1)) (bind v n)) c.concl.ensures.concl)

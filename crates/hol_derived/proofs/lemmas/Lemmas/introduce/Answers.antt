@@ -15,7 +15,7 @@ use Rattle.hol_kernel.proofs.Variables.{known_typed}
 use Rattle.hol_kernel.proofs.InstRules.{along_nameless}
 use Rattle.hol_equal.proofs.Outcomes.{became}
 use Rattle.hol_equal.specs.Applied.{rand}
-use Rattle.hol_derived.specs.Lemmas.{IsKnown}
+use Rattle.hol_derived.specs.Lemmas.{IsGeneralTheorem}
 use Rattle.hol_terms.specs.Named.{named_type}
 use Rattle.hol_subst.proofs.Closing.{nameless_abs}
 use Rattle.hol_subst.proofs.Opening.{open_close_subst}
@@ -49,7 +49,7 @@ closed-requires c =
     let function : HasType B (bind v n) (fun_type v.1 bool_type) = predicate_typed B (codes "?") v.1 bool_type (bind v n) (subst (λ (u : Nameless). HasType B u bool_type) whole c.requires.stands) in
     let member : HasType B t v.1 = subst (λ (d : TypeTree). HasType B t d) (ap (λ (u : Nameless). bound_type (rand u)) whole) c.requires.typed in
     let fits : strip (m_with t v n) ≡ strip a.concl = ap strip (sym (open_close_subst v t 0 n)) ∙ subst (λ (u : Nameless). strip (open_with t 0 (abstraction_in (rand u)).body) ≡ strip a.concl) whole c.requires.fits in
-    let known : IsKnown B Exists = subst (λ (k : Items). IsKnown k Exists) c.requires.one_basis c.in_ok-establish.ensures.established in
+    let known : IsGeneralTheorem B Exists = subst (λ (k : Items). IsGeneralTheorem k Exists) c.requires.one_basis c.in_ok-establish.ensures.established in
     along_nameless B c.basis.result.now (a.hyps) c.in_ok-hyps.hyps (exists_in v.1 (bind v n)) c.in_ok-concl.concl c.basis.ensures
     (c.in_ok-hyps.ensures ∙ c.hypotheses.ensures)
     (ap (nameless []) c.in_ok-concl.ensures ∙ whole)

@@ -14,7 +14,7 @@ use Rattle.hol_kernel.specs.Typing.{HasType}
 use Rattle.hol_kernel.proofs.InstRules.{along_nameless}
 use Rattle.hol_kernel.proofs.Sound.{second_over}
 use Rattle.hol_equal.specs.Applied.{rhs}
-use Rattle.hol_derived.specs.Lemmas.{IsKnown}
+use Rattle.hol_derived.specs.Lemmas.{IsGeneralTheorem}
 use Rattle.hol_derived.specs.Rules.{mp_of}
 use Rattle.hol_derived.specs.declared.lemma.Lemma.TheVariants.{Mp}
 use Rattle.hol_derived.proofs.Connected.{operands_typed}
@@ -40,7 +40,7 @@ closed-requires c =
     let found : dest_imp a.concl ≡ Some (p, q) = ap dest_imp (sym c.concl.ensures.concl) ∙ c.in-Some.ensures.parts in
     let parts : a.concl ≡ implication p q = dest_binary_is (codes "==>") connective_type a.concl (p, q) found in
     let same : alpha_eq p b.concl ≡ true = holds (over B (mp_of a b)) (alpha_eq p b.concl) c.requires.applies (λ e. ap (over B) (mp_other a b p q found e)) in
-    let known : IsKnown B Mp = subst (λ (k : Items). IsKnown k Mp) c.requires.one_basis c.in_ok-establish.ensures.established in
+    let known : IsGeneralTheorem B Mp = subst (λ (k : Items). IsGeneralTheorem k Mp) c.requires.one_basis c.in_ok-establish.ensures.established in
     let types = operands_typed B (codes "==>") p q bool_type (subst (λ (u : Nameless). HasType B u bool_type) parts c.well_typed.ensures.conclusion) in
     along_nameless B c.basis.result.now (set.union a.hyps b.hyps) c.in_ok-hyps.hyps (q) c.in_ok-concl.concl c.basis.ensures
     (c.in_ok-hyps.ensures ∙ (λ i. set.union (c.hypotheses.ensures i) (c.hypotheses-2.ensures i)))

@@ -11,7 +11,7 @@ use Rattle.hol_kernel.specs.Typing.{HasType}
 use Rattle.hol_kernel.proofs.InstRules.{along_nameless}
 use Rattle.hol_equal.specs.Applied.{lhs}
 use Rattle.hol_derived.specs.Applied.{negated}
-use Rattle.hol_derived.specs.Lemmas.{IsKnown}
+use Rattle.hol_derived.specs.Lemmas.{IsGeneralTheorem}
 use Rattle.hol_derived.specs.Rules.{not_intro_of}
 use Rattle.hol_derived.specs.declared.lemma.Lemma.TheVariants.{NotIntro}
 use Rattle.hol_derived.proofs.Connected.{operands_typed}
@@ -36,7 +36,7 @@ closed-requires c =
     let parts : a.concl ≡ implication p q = dest_binary_is (codes "==>") connective_type a.concl (p, q) found in
     let refuted_by : is_falsity q ≡ true = holds (over B (not_intro_of a)) (is_falsity q) c.requires.applies (λ e. ap (over B) (not_intro_other a p q found e)) in
     let refutes : a.concl ≡ implication p falsity = parts ∙ ap (implication p) (is_false q refuted_by) in
-    let known : IsKnown B NotIntro = subst (λ (k : Items). IsKnown k NotIntro) c.requires.one_basis c.in_ok-establish.ensures.established in
+    let known : IsGeneralTheorem B NotIntro = subst (λ (k : Items). IsGeneralTheorem k NotIntro) c.requires.one_basis c.in_ok-establish.ensures.established in
     let types = operands_typed B (codes "==>") p q bool_type (subst (λ (u : Nameless). HasType B u bool_type) parts c.well_typed.ensures.conclusion) in
     along_nameless B c.basis.result.now (a.hyps) c.in_ok-hyps.hyps (negation p) c.in_ok-concl.concl c.basis.ensures
     (c.in_ok-hyps.ensures ∙ c.hypotheses.ensures)

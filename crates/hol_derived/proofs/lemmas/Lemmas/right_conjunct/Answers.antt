@@ -13,7 +13,7 @@ use Rattle.hol_kernel.proofs.InstRules.{along_nameless}
 use Rattle.hol_equal.proofs.Outcomes.{became}
 use Rattle.hol_equal.specs.Applied.{lhs, rhs}
 use Rattle.hol_derived.specs.Applied.{second_conjunct}
-use Rattle.hol_derived.specs.Lemmas.{IsKnown}
+use Rattle.hol_derived.specs.Lemmas.{IsGeneralTheorem}
 use Rattle.hol_derived.specs.declared.lemma.Lemma.TheVariants.{Conjunct2}
 use Rattle.hol_derived.proofs.Connected.{operands_typed, operands_found}
 use Rattle.hol_derived.proofs.Derivations.{conjunct2_derived}
@@ -33,7 +33,7 @@ closed-requires c =
     let q = nameless [] c.in-Some.right.now in
     let found : dest_conj a.concl ≡ Some (p, q) = ap dest_conj (sym c.concl.ensures.concl) ∙ c.in-Some.ensures.parts in
     let parts : a.concl ≡ conjunction p q = dest_binary_is (codes "/\\") connective_type a.concl (p, q) found in
-    let known : IsKnown B Conjunct2 = subst (λ (k : Items). IsKnown k Conjunct2) c.requires.one_basis c.in_ok-establish.ensures.established in
+    let known : IsGeneralTheorem B Conjunct2 = subst (λ (k : Items). IsGeneralTheorem k Conjunct2) c.requires.one_basis c.in_ok-establish.ensures.established in
     let types = operands_typed B (codes "/\\") p q bool_type (subst (λ (u : Nameless). HasType B u bool_type) parts c.well_typed.ensures.conclusion) in
     along_nameless B c.basis.result.now (a.hyps) c.in_ok-hyps.hyps (q) c.in_ok-concl.concl c.basis.ensures
     (c.in_ok-hyps.ensures ∙ c.hypotheses.ensures)

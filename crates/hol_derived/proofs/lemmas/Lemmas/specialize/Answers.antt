@@ -14,7 +14,7 @@ use Rattle.hol_kernel.specs.Typing.{HasType}
 use Rattle.hol_kernel.proofs.InstRules.{along_nameless}
 use Rattle.hol_equal.proofs.Outcomes.{became}
 use Rattle.hol_equal.specs.Applied.{rand, body}
-use Rattle.hol_derived.specs.Lemmas.{IsKnown}
+use Rattle.hol_derived.specs.Lemmas.{IsGeneralTheorem}
 use Rattle.hol_subst.proofs.Closing.{nameless_abs}
 use Rattle.hol_subst.proofs.Opening.{open_close_subst}
 use Rattle.hol_formulas.proofs.FormulaLaws.{dest_forall_universal}
@@ -42,7 +42,7 @@ closed-requires c =
     let parts : a.concl ≡ app (fixed (codes "!") (quantifier_type v.1)) (bind v n) = c.in-Some.ensures ∙ ap (λ (f : Nameless). app (fixed (codes "!") (quantifier_type v.1)) f) bound_is in
     let function : HasType B (bind v n) (fun_type v.1 bool_type) = predicate_typed B (codes "!") v.1 bool_type (bind v n) (subst (λ (u : Nameless). HasType B u bool_type) parts c.well_typed.ensures.conclusion) in
     let member : HasType B t v.1 = subst (λ (d : TypeTree). HasType B t d) (ap (λ (u : Nameless). bound_type (rand u)) parts) c.requires.typed in
-    let known : IsKnown B Spec = subst (λ (k : Items). IsKnown k Spec) c.requires.one_basis c.in_ok-establish.ensures.established in
+    let known : IsGeneralTheorem B Spec = subst (λ (k : Items). IsGeneralTheorem k Spec) c.requires.one_basis c.in_ok-establish.ensures.established in
     along_nameless B c.basis.result.now (a.hyps) c.in_ok-hyps.hyps (m_with t v n) c.in_ok-concl.concl c.basis.ensures
     (c.in_ok-hyps.ensures ∙ c.hypotheses.ensures)
     (c.in_ok-concl.ensures)

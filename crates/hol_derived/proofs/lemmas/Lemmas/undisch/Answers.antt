@@ -11,7 +11,7 @@ use Rattle.hol_kernel.specs.Sequent.{only_hyp, sequent_of}
 use Rattle.hol_kernel.specs.Theorem.{theorem_over, over}
 use Rattle.hol_kernel.specs.Typing.{HasType}
 use Rattle.hol_kernel.proofs.InstRules.{along_nameless}
-use Rattle.hol_derived.specs.Lemmas.{IsKnown}
+use Rattle.hol_derived.specs.Lemmas.{IsGeneralTheorem}
 use Rattle.hol_derived.specs.Rules.{undisch_of}
 use Rattle.hol_derived.specs.declared.lemma.Lemma.TheVariants.{Mp}
 use Rattle.hol_derived.proofs.Connected.{operands_typed}
@@ -33,7 +33,7 @@ closed-requires c =
     let q = nameless [] c.in-Some.q.now in
     let found : dest_imp a.concl ≡ Some (p, q) = ap dest_imp (sym c.concl.ensures.concl) ∙ c.in-Some.ensures.parts in
     let parts : a.concl ≡ implication p q = dest_binary_is (codes "==>") connective_type a.concl (p, q) found in
-    let known : IsKnown B Mp = subst (λ (k : Items). IsKnown k Mp) c.requires.one_basis c.in_ok-establish.ensures.established in
+    let known : IsGeneralTheorem B Mp = subst (λ (k : Items). IsGeneralTheorem k Mp) c.requires.one_basis c.in_ok-establish.ensures.established in
     let types = operands_typed B (codes "==>") p q bool_type (subst (λ (u : Nameless). HasType B u bool_type) parts c.well_typed.ensures.conclusion) in
     along_nameless B c.basis.result.now (set.union a.hyps (only_hyp p)) c.in_ok-hyps.hyps (q) c.in_ok-concl.concl c.basis.ensures
     (c.in_ok-hyps.ensures ∙ (λ i. set.union (c.hypotheses.ensures i) (c.in_ok-assumed.ensures i)))
