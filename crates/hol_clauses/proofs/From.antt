@@ -8,7 +8,8 @@ use Rattle.hol_terms.specs.Alpha.{strip}
 use Rattle.hol_kernel.specs.Sequent.{Hyps, no_hyps}
 use Rattle.hol_kernel.specs.Theorem.{Theorem, theorem_over}
 use Rattle.hol_equal.proofs.HypSets.{none_left, none_without}
-use Rattle.hol_derived.proofs.HypLaws.{is, has, same, in_union, in_rest}
+use Rattle.hol_kernel.proofs.Cuts.{same_hyps}
+use Rattle.hol_derived.proofs.HypLaws.{is, has, in_union, in_rest}
 use Rattle.hol_clauses.specs.Deduction.{theorem_under, IsFrom}
 use Rattle.hol_clauses.specs.Statements.{theorem_of}
 
@@ -22,7 +23,7 @@ either_way false b false = refl
 
 pub rest_of_union : (hs ks : Hyps) (k : Nameless) → set.remove (set.union hs ks) k ≡ set.union (set.remove hs k) (set.remove ks k)
 rest_of_union hs ks k =
-    same _ _
+    same_hyps _ _
     (λ q.
     in_rest (set.union hs ks) k q ∙ ap (λ b. not (is q k) && b) (in_union hs ks q) ∙ either_way (has hs q) (has ks q) (is q k)
     ∙ (λ i. sym (in_rest hs k q) i || sym (in_rest ks k q) i) ∙ sym (in_union (set.remove hs k) (set.remove ks k) q))
@@ -39,7 +40,7 @@ swapped_ways a false k = refl
 
 pub rests_swapped : (hs : Hyps) (j k : Nameless) → set.remove (set.remove hs j) k ≡ set.remove (set.remove hs k) j
 rests_swapped hs j k =
-    same _ _
+    same_hyps _ _
     (λ q.
     in_rest (set.remove hs j) k q ∙ ap (λ b. not (is q k) && b) (in_rest hs j q) ∙ swapped_ways (has hs q) (is q j) (is q k)
     ∙ ap (λ b. not (is q j) && b) (sym (in_rest hs k q)) ∙ sym (in_rest (set.remove hs k) j q))
