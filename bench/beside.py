@@ -1,7 +1,7 @@
 #!/usr/bin/env python3
 """The kernel's rules, the derived rules and whole theories beside HOL Light's, in one run, by processor time.
 
-    python3 bench/beside.py [--program PATH] [--serve PATH] [--rounds N] [--only PART] [--best]
+    python3 bench/beside.py [--program PATH] [--serve PATH] [--rounds N] [--only PART] [--processor N]
 
 --program is the built program crates/hol_bench/out/hol_bench, and --serve crates/hol_serve/out/hol_serve. What isn't given is left out. Parts:
 
@@ -14,53 +14,54 @@
             rules: it walks the step, joins its basis, takes its premise. HOL Light's rules alone stand beside it, so this is no comparison of rules: `derived` is
   theories  how long the theories of examples/theories take from nothing. HOL Light runs the same steps by its own functions of the same names; what is timed there
             are the calls alone, with the reading of their quotations, and beside it all that its toplevel takes with reading OCaml. Ours is all from the first request
+  library   how long the theorems of theories/ that HOL Light has by these names take, there by its own tactics; once
 
-The rates are medians of the rounds, or by --best the best round of each side, for a processor that others share; the library is run once. HOL Light is Debian's package (apt-get install hol-light libnum-ocaml-dev), loaded up to class.ml. Where it is not installed, only
-our figures are printed.
+Both sides take turns on one processor: a round of a row is HOL Light's measurement and, right behind it, ours, each of a fifth of a second, so that a processor that others
+make slow is slow for both. Shown are the medians of the rounds: of each side, and of the rounds' ratios, which needn't be the ratio of the other two. HOL Light is Debian's
+package (apt-get install hol-light libnum-ocaml-dev), loaded up to class.ml. Where it is not installed, only our figures are printed.
 
 Needs Python 3.8 and Linux, and nothing else.
 """
 
 import argparse
-import functools
 import os
 import pathlib
 import re
 import statistics
-import subprocess
 import sys
-import tempfile
 
+import hol_light
 from bench import ONE_KEPT, Session, anew, expect, is_done, is_run, measure, new_theory, put, repeated, report, request
-from kernel import HEIGHTS, RULES, rate
+from hol_light import HolLight
+from kernel import HEIGHTS, RULES, enough, processor_seconds
 from library import Theories
 from theories import EXAMPLES, commands, documents
 
-HOL_LIGHT = "/usr/share/hol-light"
-LAST = 'loads "class.ml";;'
 KERNEL = 'loads "fusion.ml";;'
 SCRIPT = """
 let a = mk_vartype "A";;
 let f = mk_var("f", mk_fun_ty a a);;
 let x = mk_var("x", a) and y = mk_var("y", a) and z = mk_var("z", a);;
 let rec tower v n = if n = 0 then v else mk_comb(f, tower v (n-1));;
-let rec rate times g =
+let seconds times g =
   let before = Sys.time() in
   for i = 1 to times do ignore (g ()) done;
-  let seconds = Sys.time() -. before in
-  if seconds < 0.33 then rate (times * 2) g else float times /. seconds;;
-let time name height g = Printf.printf "%s %d %.0f\\n%!" name height (rate 1000 g);;
-let bench height =
+  Sys.time() -. before;;
+let rec enough times g = let spent = seconds times g in if spent > 0.1 then int_of_float (0.2 *. float times /. spent) else enough (times * 2) g;;
+let jobs = Hashtbl.create 100;;
+let keep height name g = Hashtbl.add jobs (name,height) (g,enough 100 g);;
+let turn name height = let g,times = Hashtbl.find jobs (name,height) in Printf.printf "rate %.0f\\n%!" (float times /. seconds times g);;
+let each_kernel_rule height =
   let t = tower x height in
   let th = REFL t in
   let ff = REFL f in
   let redex = mk_comb(mk_abs(x,t),x) in
-  time "refl" height (fun () -> REFL t);
-  time "trans" height (fun () -> TRANS th th);
-  time "mk_comb" height (fun () -> MK_COMB(ff,th));
-  time "beta" height (fun () -> BETA redex);
-  time "inst" height (fun () -> INST [y,x] th);
-  time "inst_type" height (fun () -> INST_TYPE [mk_vartype "B",a] th);;
+  keep height "refl" (fun () -> REFL t);
+  keep height "trans" (fun () -> TRANS th th);
+  keep height "mk_comb" (fun () -> MK_COMB(ff,th));
+  keep height "beta" (fun () -> BETA redex);
+  keep height "inst" (fun () -> INST [y,x] th);
+  keep height "inst_type" (fun () -> INST_TYPE [mk_vartype "B",a] th);;
 """
 DERIVED = """
 let each_rule height job =
@@ -100,9 +101,9 @@ let each_rule height job =
   job "ap_term" (fun () -> AP_TERM f th);
   job "beta_conv" (fun () -> BETA_CONV redex);;
 """
-TIMED = "let derived height = each_rule height (fun name g -> time name height g);;\n"
+TIMED = "let each_derived_rule height = each_rule height (keep height);;\n"
 COUNTED = """
-let count name g = let before = !kernel_steps in ignore (g ()); Printf.printf "%s %d %d\\n%!" name 0 (!kernel_steps - before);;
+let count name g = let before = !kernel_steps in ignore (g ()); Printf.printf "steps %s %d\\n%!" name (!kernel_steps - before);;
 each_rule 4 count;;
 """
 COUNTING = """
@@ -158,58 +159,77 @@ RENAMED = {"COND": "CONDITION"}
 """Constants of examples/theories that HOL Light has as its own."""
 
 
-class Middle:
-    """What the seconds of some rounds come to."""
-    seconds = staticmethod(statistics.median)
+class Pair:
+    """The rounds of one row: what each side did in a second, or the seconds that it took."""
+
+    def __init__(self):
+        self.ours, self.theirs = [], []
+
+    def our(self):
+        return statistics.median(self.ours)
+
+    def their(self):
+        return statistics.median(self.theirs)
+
+    def ratio(self):
+        """How many times their rate ours is."""
+        return statistics.median(our / their for our, their in zip(self.ours, self.theirs))
+
+    def times(self):
+        """How many times our seconds theirs are."""
+        return statistics.median(their / our for our, their in zip(self.ours, self.theirs))
 
 
-def installed():
-    return os.path.exists(f"{HOL_LIGHT}/hol.ml")
+class Jobs:
+    """Rules that HOL Light and hol_bench do on request, each for a fifth of a second."""
+
+    def __init__(self, program, light, script, function, heights):
+        self.program, self.light, self.times = program, light, {}
+        if light:
+            light.ask(SCRIPT + script + "".join(f"{function} {height};;\n" for height, _ in heights))
+
+    def theirs(self, rule, height):
+        """HOL Light's rate."""
+        return float(re.search(r"^rate (\d+)$", self.light.ask(f'turn "{rule}" {height};;'), re.M)[1])
+
+    def ours(self, rule, height, times):
+        """Our rate; `times` is how often to do it at first, until it is known how often a fifth of a second takes."""
+        if (rule, height) not in self.times:
+            times = enough(self.program, rule, height, times)
+            self.times[rule, height] = max(1, int(0.2 * times / processor_seconds(self.program, rule, height, times)[0]))
+        times = self.times[rule, height]
+        return times / max(processor_seconds(self.program, rule, height, times)[0] - processor_seconds(self.program, rule, height, 0)[0], 1e-6)
+
+    def pair(self, rule, height, times, rounds):
+        """The rates of both sides in turn."""
+        found = Pair()
+        for _ in range(rounds):
+            if self.light:
+                found.theirs.append(self.theirs(rule, height))
+            if self.program and rule not in NO_CALL:
+                found.ours.append(self.ours(rule, height, times))
+        return found
 
 
-def run_hol_light(script, more=None):
-    """What HOL Light prints for a script, loaded up to class.ml; `more` is OCaml that is loaded behind lines of hol.ml that begin so."""
-    with tempfile.TemporaryDirectory() as room:
-        for number, text in enumerate((more or {}).values()):
-            pathlib.Path(room, f"more{number}.ml").write_text(text, encoding="utf-8")
-        with open(f"{HOL_LIGHT}/hol.ml", encoding="utf-8") as whole, open(f"{room}/init.ml", "w", encoding="utf-8") as init:
-            for line in whole:
-                init.write(line)
-                init.write("".join(f'loads "{room}/more{number}.ml";;\n' for number, start in enumerate(more or {}) if line.startswith(start)))
-                if line.startswith(LAST):
-                    break
-        done = subprocess.run([f"{HOL_LIGHT}/ocaml", "-noprompt", "-init", f"{room}/init.ml"], input=script, stdout=subprocess.PIPE,
-                              stderr=subprocess.STDOUT, text=True, check=True)
-    return done.stdout
+def started(more=None):
+    """HOL Light, where it is installed."""
+    return HolLight(more) if hol_light.installed() else None
 
 
-def rates(output):
-    """The rates by rule and height."""
-    found = {}
-    for rule, height, per_second in re.findall(r"^(\w+) (\d+) (\d+)$", output, re.M):
-        found.setdefault((rule, int(height)), []).append(int(per_second))
-    return {key: (statistics.median if Middle.seconds is statistics.median else max)(each) for key, each in found.items()}
-
-
-def calls(function, heights, rounds):
-    return "".join(f"{function} {height};;\n" for _ in range(rounds) for height, _ in heights)
-
-
-def line_of(rule, height, ours, theirs):
+def line_of(rule, height, pair):
     """A row of a table of rates."""
-    line = f"{rule:12}{height * 5 + 2:7}" + (f"{ours:14,.0f}" if ours else " " * 14)
-    if theirs:
-        line += f"{theirs:14,.0f}" + (f"{ours / theirs:8.2f}" if ours else "")
+    line = f"{rule:12}{height * 5 + 2:7}" + (f"{pair.our():14,.0f}" if pair.ours else " " * 14)
+    if pair.theirs:
+        line += f"{pair.their():14,.0f}" + (f"{pair.ratio():8.2f}" if pair.ours else "")
     return line
 
 
 def kernel_part(program, rounds):
-    theirs = rates(run_hol_light(SCRIPT + calls("bench", HEIGHTS, rounds))) if installed() else {}
+    jobs = Jobs(program, started(), "", "each_kernel_rule", HEIGHTS)
     print(f"{'rule':12}{'nodes':>7}{'a second':>14}{'HOL Light':>14}{'ratio':>8}")
     for rule in RULES:
         for height, times in HEIGHTS:
-            ours = rate(program, rule, height, times, rounds, Middle.seconds)[0] if program else None
-            print(line_of(rule, height, ours, theirs.get((rule, height))), flush=True)
+            print(line_of(rule, height, jobs.pair(rule, height, times, rounds)), flush=True)
 
 
 def is_made(reply):
@@ -227,48 +247,43 @@ def qed_seconds(program, before, goal, steps):
     return seconds
 
 
-def our_rules(program, rounds):
-    """What one round more of each proof takes in its `qed`, in seconds."""
-    found = {}
-    for rules, job in QED_JOBS.items():
-        taken = []
-        for _ in range(rounds):
-            few, many = (qed_seconds(program, *job(count)) for count in (FEW, MANY))
-            taken.append((many - few) / (MANY - FEW))
-        found[rules] = Middle.seconds(taken)
-    return found
-
-
-@functools.lru_cache(None)
-def their_rules(rounds):
-    """The rates of HOL Light's derived rules."""
-    return rates(run_hol_light(SCRIPT + DERIVED + TIMED + calls("derived", DERIVED_HEIGHTS, rounds))) if installed() else {}
+def round_seconds(program, job):
+    """What one round more of such a proof takes in its `qed`, in seconds."""
+    few, many = (qed_seconds(program, *job(count)) for count in (FEW, MANY))
+    return (many - few) / (MANY - FEW)
 
 
 def their_steps():
-    """How many rules of its kernel each of them takes."""
-    return rates(run_hol_light(SCRIPT + DERIVED + COUNTED, {KERNEL: COUNTING})) if installed() else {}
+    """How many rules of HOL Light's kernel each derived rule takes there."""
+    if not hol_light.installed():
+        return {}
+    with HolLight({KERNEL: COUNTING}) as light:
+        return {rule: int(count) for rule, count in re.findall(r"^steps (\w+) (\d+)$", light.ask(SCRIPT + DERIVED + COUNTED), re.M)}
 
 
 def derived_part(program, rounds):
-    theirs, steps = their_rules(rounds), their_steps()
+    jobs, steps = Jobs(program, started(), DERIVED + TIMED, "each_derived_rule", DERIVED_HEIGHTS), their_steps()
     print(f"{'rule':12}{'nodes':>7}{'a second':>14}{'HOL Light':>14}{'ratio':>8}{'its steps':>11}")
     for rule in DERIVED_RULES:
         for height, times in DERIVED_HEIGHTS:
-            ours = rate(program, rule, height, times, rounds, Middle.seconds)[0] if program and rule not in NO_CALL else None
-            line = line_of(rule, height, ours, theirs.get((rule, height)))
-            print(f"{line:55}{steps[rule, 0]:11.0f}" if steps else line, flush=True)
+            line = line_of(rule, height, jobs.pair(rule, height, times, rounds))
+            print(f"{line:55}{steps[rule]:11}" if steps else line, flush=True)
 
 
 def rules_part(program, rounds):
-    theirs = their_rules(rounds)
-    print(f"{'rules':24}{'ours in a qed':>16}{'HOL Light':>12}{'ratio':>8}")
-    for rules, seconds in (our_rules(program, rounds) if program else {}).items():
-        line = f"{' and '.join(rules):24}{1e6 * seconds:13.2f} us"
-        if theirs:
-            own = sum(1 / theirs[rule, DERIVED_HEIGHTS[0][0]] for rule in rules)
-            line += f"{1e6 * own:9.2f} us{own / seconds:8.2f}"
-        print(line, flush=True)
+    least = DERIVED_HEIGHTS[:1]
+    jobs = Jobs(None, started(), DERIVED + TIMED, "each_derived_rule", least)
+    print(f"{'rules':24}{'ours in a qed':>16}{'HOL Light':>12}{'times':>8}")
+    for rules, job in QED_JOBS.items():
+        pair = Pair()
+        for _ in range(rounds):
+            if jobs.light:
+                pair.theirs.append(sum(1 / jobs.theirs(rule, least[0][0]) for rule in rules))
+            if program:
+                pair.ours.append(round_seconds(program, job))
+        line = f"{' and '.join(rules):24}" + (f"{1e6 * pair.our():13.2f} us" if program else " " * 16)
+        line += f"{1e6 * pair.their():9.2f} us" if jobs.light else ""
+        print(line + (f"{pair.times():8.2f}" if program and jobs.light else ""), flush=True)
 
 
 def quoted(text):
@@ -312,47 +327,53 @@ def phrases(name):
     return "\n".join(lines) + "\n" + SPENT.format(name=name)
 
 
-def their_theories(rounds):
-    """HOL Light's seconds up to the end of each theory: those of its functions, and those with its toplevel."""
-    found = {}
-    for _ in range(rounds):
-        output = run_hol_light(THEORIES + "".join(phrases(name) for name in EXAMPLES))
-        failed = re.findall(r"^(?:Exception|Error).*$", output, re.M)
-        if failed:
-            sys.exit("beside: HOL Light refuses a step of examples/theories:\n" + "\n".join(failed[:5]))
-        for name, calls_alone, whole in re.findall(r"^theory (\w+) ([\d.]+) ([\d.]+)$", output, re.M):
-            found.setdefault(name, []).append((float(calls_alone), float(whole)))
-    return {name: tuple(Middle.seconds(each) for each in zip(*values)) for name, values in found.items()}
+def their_theory(light, name):
+    """HOL Light's seconds up to the end of this theory, behind those before it: those of its functions, and those with its toplevel."""
+    output = light.ask(phrases(name))
+    failed = re.findall(r"^(?:Exception|Error).*$", output, re.M)
+    if failed:
+        sys.exit("beside: HOL Light refuses a step of examples/theories:\n" + "\n".join(failed[:5]))
+    return tuple(map(float, re.search(rf"^theory {name} ([\d.]+) ([\d.]+)$", output, re.M).groups()))
 
 
-def our_theories(program, rounds):
-    """Our seconds of processor time up to the end of each theory."""
-    found = {}
-    for last in range(1, len(EXAMPLES) + 1):
-        theories = [(name, commands(name)) for name in EXAMPLES[:last]]
-        runs = sum(is_run(text) for _, texts in theories for text in texts)
-        taken = [measure(program, [], documents(theories), is_done, "the theories", runs) for _ in range(rounds)]
-        found[EXAMPLES[last - 1]] = Middle.seconds(each[2] for each in taken)
-    return found
+def our_theories(program, last):
+    """Our seconds of processor time up to the end of this theory, from nothing."""
+    theories = [(name, commands(name)) for name in EXAMPLES[:EXAMPLES.index(last) + 1]]
+    runs = sum(is_run(text) for _, texts in theories for text in texts)
+    return measure(program, [], documents(theories), is_done, "the theories", runs)[2]
 
 
 def theories_part(program, rounds):
-    theirs = their_theories(rounds) if installed() else {}
-    ours = our_theories(program, rounds) if program else {}
-    print(f"{'theories up to':16}{'ours, s':>10}{'calls, s':>10}{'ratio':>8}{'toplevel, s':>13}{'ratio':>8}")
+    calls, whole = ({name: Pair() for name in EXAMPLES} for _ in range(2))
+    for _ in range(rounds):
+        light = started()
+        if light:
+            light.ask(THEORIES)
+        for name in EXAMPLES:
+            if light:
+                for pair, seconds in zip((calls[name], whole[name]), their_theory(light, name)):
+                    pair.theirs.append(seconds)
+            if program:
+                seconds = our_theories(program, name)
+                calls[name].ours.append(seconds)
+                whole[name].ours.append(seconds)
+        if light:
+            light.close()
+    print(f"{'theories up to':16}{'ours, s':>10}{'calls, s':>10}{'times':>8}{'toplevel, s':>13}{'times':>8}")
     for name in EXAMPLES:
-        line = f"{name:16}" + (f"{ours[name]:10.4f}" if name in ours else " " * 10)
-        for seconds, width in zip(theirs.get(name, ()), (10, 13)):
-            line += f"{seconds:{width}.3f}" + (f"{seconds / ours[name]:8.1f}" if name in ours else " " * 8)
+        line = f"{name:16}" + (f"{whole[name].our():10.4f}" if program else " " * 10)
+        for pair, width in ((calls[name], 10), (whole[name], 13)):
+            line += (f"{pair.their():{width}.3f}" if pair.theirs else "") + (f"{pair.times():8.1f}" if pair.theirs and program else " " * 8)
         print(line, flush=True)
 
 
 def their_library(names):
     """The seconds that HOL Light takes to prove its theorems of these names."""
-    lines = pathlib.Path(HOL_LIGHT, "hol.ml").read_text(encoding="utf-8").splitlines(keepends=True)
-    start, end = (next(k for k, line in enumerate(lines) if line.startswith(last)) for last in (LAST, LAST_OF_LIBRARY))
+    lines = pathlib.Path(hol_light.ROOT, "hol.ml").read_text(encoding="utf-8").splitlines(keepends=True)
+    start, end = (next(k for k, line in enumerate(lines) if line.startswith(last)) for last in (hol_light.LAST, LAST_OF_LIBRARY))
     asked = "".join(f'tell "{name}" {name};;\n' for name in names)
-    output = run_hol_light("".join(lines[start + 1:end + 1]) + asked, {TACTICS: TIMING})
+    with HolLight({TACTICS: TIMING}) as light:
+        output = light.ask("".join(lines[start + 1:end + 1]) + asked)
     return {name: float(seconds) for name, seconds in re.findall(r"^proved (\S+) ([\d.]+)$", output, re.M)}
 
 
@@ -373,7 +394,7 @@ def our_library(program):
 
 def library_part(program, _rounds):
     names = [text.split()[1] for _, texts in Theories().files for text in texts if text.startswith("g ")]
-    theirs = their_library(names) if installed() else {}
+    theirs = their_library(names) if hol_light.installed() else {}
     ours = our_library(program) if program else {}
     line = f"{len(theirs)} theorems of HOL Light's names: HOL Light's tactics {sum(theirs.values()):.2f} s"
     if ours:
@@ -386,14 +407,13 @@ def main():
     parser = argparse.ArgumentParser(description=__doc__, formatter_class=argparse.RawDescriptionHelpFormatter)
     parser.add_argument("--program", help="the built hol_bench")
     parser.add_argument("--serve", help="the built hol_serve")
-    parser.add_argument("--rounds", type=int, default=3)
+    parser.add_argument("--rounds", type=int, default=9)
     parser.add_argument("--only", default="", help="kernel, derived, rules, theories or library")
-    parser.add_argument("--best", action="store_true", help="the best round of each side, not the median")
+    parser.add_argument("--processor", type=int, default=max(os.sched_getaffinity(0)), help="the processor on which both sides run")
     given = parser.parse_args()
-    if given.best:
-        Middle.seconds = staticmethod(min)
+    os.sched_setaffinity(0, {given.processor})
     program, serve = (path and os.path.abspath(path) for path in (given.program, given.serve))
-    if not installed():
+    if not hol_light.installed():
         print("HOL Light is not installed")
     parts = (("kernel", kernel_part, program), ("derived", derived_part, program), ("rules", rules_part, serve), ("theories", theories_part, serve), ("library", library_part, serve))
     for part, work, needed in parts:

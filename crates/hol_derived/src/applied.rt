@@ -1,3 +1,3 @@
-//! The rules for callers that know that they apply: such a call is not refused.
+//! GEN without general theorems, for callers that know that it applies: such a call is not refused.
 
 pub use crate::universal::generalize;

@@ -1,4 +1,4 @@
-//! Disjunction, for callers that know that the rule applies (bool.ml: DISJ1, DISJ2, DISJ_CASES).
+//! Disjunctions from a side, for callers that know that the rule applies, and what the definition of `\/` says (bool.ml: DISJ1, DISJ2).
 ghost use Rattle.std.specs.Prelude.{◌≡◌, IfOk, [], codes};
 ghost use Rattle.hol_terms.specs.Named.{var};
 ghost use Rattle.hol_terms.specs.Nameless.{nameless};

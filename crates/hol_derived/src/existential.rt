@@ -1,4 +1,4 @@
-//! Existential quantification, for callers that know that the rule applies (bool.ml: EXISTS, CHOOSE).
+//! What the definition of `?` says, and the antecedents of implications replaced by equals.
 ghost use Rattle.std.specs.Prelude.{◌≡◌, IfOk, [], true};
 ghost use Rattle.std.specs.FinSet as set;
 ghost use Rattle.hol_types.specs.Fun.{fun_type};

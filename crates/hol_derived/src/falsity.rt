@@ -1,4 +1,4 @@
-//! Falsity and negation, for callers that know that the rule applies (bool.ml: CONTR, NOT_INTRO, EQF_INTRO).
+//! Falsity, for callers that know that the rule applies (bool.ml: CONTR, EQF_INTRO), and the definition of `~`.
 ghost use Rattle.std.specs.Prelude.{◌≡◌, IfOk, []};
 ghost use Rattle.hol_terms.specs.Nameless.{nameless};
 ghost use Rattle.hol_formulas.specs.Equation.{bool_type};

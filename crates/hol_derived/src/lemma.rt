@@ -31,7 +31,7 @@ use hol_kernel::{Basis, Thm};
 use hol_terms::Term;
 use std::alloc::{AllocError, Global};
 
-/// A general theorem, by the name of the rule that has its derivation from it; DISCH has its from two, of which one is `Both`.
+/// A general theorem, by the name of the rule that has its derivation from it; `Both` is for DISCH. DISCH, GEN and DISJ_CASES have theirs from several (`Lemmas::establish_disch` and the like).
 #[derive(Clone, Copy, PartialEq, Eq)]
 pub(crate) enum Lemma {
     /// `|- p <=> (p <=> T)`.

@@ -20,7 +20,7 @@ pub fn prelude_types(alloc: Global) -> Result<Vec<(Name, usize)>, AllocError>
     Ok(types)
 }
 
-/// Each constant of the prelude with its generic type. The types share their parts: a reading makes the list anew.
+/// Each constant of the prelude with its generic type. The types share their parts.
 pub fn prelude_constants(alloc: Global) -> Result<Vec<(Name, Ty)>, AllocError>
     ensures { IfOk result (λ constants. constants.items ≡ prelude_constants) }
 {

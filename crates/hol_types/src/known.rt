@@ -2,7 +2,7 @@
 ghost use Rattle.std.specs.Prelude.{◌≡◌, ◌∷◌, []};
 ghost use Rattle.hol_types.specs.Known.{known_text, known_at};
 
-/// A name that takes no memory: those of the prelude's types and constants, and the letters of its general theorems.
+/// A name that takes no memory: those of the prelude's types and constants, and most letters of its general theorems.
 #[derive(Clone, Copy, PartialEq, Eq)]
 pub enum KnownName {
     /// `fun`, the constructor of the types of functions.
