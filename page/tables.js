@@ -642,6 +642,7 @@ export const OF_TACTICALS = {
  "FIRST": "FIRST has nothing to try",
  "CHANGED_TAC": "what CHANGED_TAC runs leaves the goal as it was"
 };
+export const RECURSIVE = "%s stands on its own right side: a definition can't be recursive; a function on numbers or lists takes num_REC or list_REC (theories/README.md, Definitions by recursion)";
 export const IN_TERMS = {
  "__proto__": null,
  "!": "; a binder as an argument stands in parentheses: f (!x. P x)",

@@ -38,6 +38,10 @@ _OF_COMMANDS = {
 }
 """What some commands' refusals say."""
 
+_RECURSIVE = ("%s stands on its own right side: a definition can't be recursive; a function on numbers or lists takes num_REC or list_REC "
+              "(theories/README.md, Definitions by recursion)")
+"""What refusal 11 says of a definition's own constant, which is free on the right."""
+
 _ARGUMENT = re.compile(r"\s*([`(\[]|(?!(THEN|THENL|ORELSE)(?![A-Za-z0-9_']))[A-Za-z_])")
 """An argument behind a function's name."""
 
@@ -80,6 +84,8 @@ def explain(text: str, refusal: Refusal, opened: Optional[str] = None) -> Told:
         words = _FIXED[number] % _key(refusal.argument)
     elif number in own:
         words = own[number].replace("%s", refusal.argument)
+    elif number == protocol.NOT_CLOSED and notation.tokens_before(text, len(text))[3:4] == [refusal.argument]:
+        words = _RECURSIVE % refusal.argument
     else:
         words = _FIXED.get(number, refusal.text + " %s").replace("%s", refusal.argument).strip()
     return start, end, words + _inside(text, number, refusal.argument)

@@ -5,6 +5,7 @@ import unittest
 from holls import notation
 from holls.protocol import Refusal
 from holls.words import explain
+from tests.helpers import ROOT
 
 
 def said(text, number, argument):
@@ -17,6 +18,13 @@ class OfDefinitions(unittest.TestCase):
         self.assertIn("stands in parentheses", said("new_definition D `f x = x /\\ x`", 1, "26"))
         self.assertIn("make it an argument", said("new_definition D `f x = y`", 11, "y"))
         self.assertIn("0 to 16", said("new_type t 17", 1, "11"))
+
+    def test_a_recursive_one(self):
+        for text in ("new_definition Q `len (x:A) = len x`", "new_definition Q `len = len`", "new_definition Q\n` len x <=> !y. len y`"):
+            self.assertIn("len stands on its own right side: a definition can't be recursive", said(text, 11, "len"))
+        self.assertIn("Definitions by recursion", (ROOT / "theories" / "README.md").read_text(encoding="utf-8"))
+        self.assertEqual(said("new_definition Q `len (x:A) = f x`", 11, "f"), "f is free in what is defined: make it an argument of the constant")
+        self.assertIn("has to be closed", said("new_basic_type_definition ty abs rep N N TH", 11, "rep"))
 
     def test_a_type_definition(self):
         text = "new_basic_type_definition ty abs rep N N TH"
