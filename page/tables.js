@@ -580,7 +580,7 @@ export const FIXED = {
  "14": "a rule of a theorem expression doesn't fit its theorem: %s",
  "15": "%s was given a theorem with a hypothesis that is none of the goal's assumptions",
  "16": "no goal is left here: end the proof by qed;;",
- "18": "the turn limit was reached: the function doesn't end, or needs a larger --turns",
+ "18": "the turn limit was reached: a function doesn't end (rewriting? ONCE_REWRITE_TAC, or SUBST1_TAC at an instance), or takes more turns than a step has: split it into several e",
  "19": "the proof isn't done: goals remain",
  "20": "nothing to undo: the proof is at its beginning",
  "21": "the import gives %s another value than the one that stands here: rename one of the two",
@@ -595,6 +595,10 @@ export const OF_COMMANDS = {
   "__proto__": null,
   "11": "%s is free in the P of the theorem `P x`: the type's condition has to be closed",
   "14": "%s takes a theorem `P x` as its last name, and this one is no application"
+ },
+ "e": {
+  "__proto__": null,
+  "13": "too large: a term here or a term that a function makes has over 20,000 nodes, those of its types counted: rewriting that doesn't end? ONCE_REWRITE_TAC, or SUBST1_TAC at an instance"
  },
  "deftac": {
   "__proto__": null,

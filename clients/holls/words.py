@@ -16,7 +16,8 @@ _FIXED = {
     protocol.BAD_RULE: "a rule of a theorem expression doesn't fit its theorem: %s",
     protocol.HYPOTHESES: "%s was given a theorem with a hypothesis that is none of the goal's assumptions",
     protocol.NO_GOAL: "no goal is left here: end the proof by qed;;",
-    protocol.TURN_LIMIT: "the turn limit was reached: the function doesn't end, or needs a larger --turns",
+    protocol.TURN_LIMIT: "the turn limit was reached: a function doesn't end (rewriting? ONCE_REWRITE_TAC, or SUBST1_TAC at an instance), or "
+                         "takes more turns than a step has: split it into several e",
     protocol.GOALS_REMAIN: "the proof isn't done: goals remain",
     protocol.NOTHING_TO_UNDO: "nothing to undo: the proof is at its beginning",
     protocol.IMPORT_CLASH: "the import gives %s another value than the one that stands here: rename one of the two",
@@ -30,6 +31,10 @@ _OF_COMMANDS = {
     "new_basic_type_definition": {
         protocol.NOT_CLOSED: "%s is free in the P of the theorem `P x`: the type's condition has to be closed",
         protocol.BAD_RULE: "%s takes a theorem `P x` as its last name, and this one is no application",
+    },
+    "e": {
+        protocol.TOO_LARGE: "too large: a term here or a term that a function makes has over 20,000 nodes, those of its types counted: rewriting that "
+                            "doesn't end? ONCE_REWRITE_TAC, or SUBST1_TAC at an instance",
     },
     "deftac": {
         protocol.TOO_LARGE: "too large: a term here, or the expression with its terms, its theorems and the expressions that it names, has over "

@@ -116,6 +116,15 @@ class OfSlips(unittest.TestCase):
         never = ["ALL_TAC", "MP_TAC", "ASSUME_TAC", "STRIP_ASSUME_TAC", "BETA_TAC"]
         self.assertEqual(set(notation.TACS) - set(wanting), set(never) | {name for name in notation.TACS if "REWRITE" in name})
 
+    def test_what_does_not_end(self):
+        for number in (13, 18):
+            self.assertIn("rewriting", said("e REWRITE_TAC [GROW]", number, ""))
+            self.assertIn("ONCE_REWRITE_TAC, or SUBST1_TAC at an instance", said("e REWRITE_TAC [GROW]", number, ""))
+        self.assertIn("a term that a function makes has over 20,000 nodes", said("e REWRITE_TAC [GROW]", 13, ""))
+        self.assertIn("split the statement", said("g A `p`", 13, ""))
+        self.assertIn("split it into several e", said("e REPEAT ALL_TAC", 18, ""))
+        self.assertNotIn("--turns", said("e REPEAT ALL_TAC", 18, ""))
+
     def test_hints_in_terms_stand_at_tokens_of_terms(self):
         self.assertIn("binder as an argument", said("g A `f !x. P`", 1, "7"))
         self.assertNotIn("binder", said("e ACCEPT_TAC !x", 1, "13"))
