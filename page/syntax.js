@@ -3,13 +3,14 @@ import { COMMANDS, FORWARD, IN_TERMS, LIMITS, RULES_ELSEWHERE, TACS, TACTICALS }
 import { nearCommand, token as tokenAt, tokensBefore, withoutQuotations } from './notation.js';
 
 const LINE_WORD = /\n[ \t\r]*([A-Za-z_][A-Za-z0-9_']*)/g;
+const COMMENT = /\/\/|\/\*|--|#|%/y;
 const GOES_ON = { __proto__: null, r: /^\s*[0-9]/, e: /^\s*[A-Za-z(]/, b: /^\s*$|^\s*\n/ };
 
 // The words for refusal 1 at a place.
 export function explain(text, place) {
   const token = tokenAt(text, place);
   const before = tokensBefore(text, place);
-  const told = unclosed(text) ?? missingEnd(text) ?? withoutName(text, before);
+  const told = comment(text, place, before) ?? unclosed(text) ?? missingBefore(text, place) ?? withoutName(text, before);
   if (told) return told;
   if (before.length === 1 && before[0] === 'deftac' && token) {
     return [place, place + token.length, `a name is missing before the expression: ${COMMANDS.deftac}`];
@@ -21,6 +22,14 @@ export function explain(text, place) {
   const count = (brackets) => before.filter((one) => brackets.includes(one)).length;
   if (count('([') - count(')]') >= LIMITS.brackets) return [place, place + 1, `more than ${LIMITS.brackets} brackets are open at once here`];
   return unexpected(text, place, token, before);
+}
+
+// A comment in another language's style, at which the text fails: none of these marks begins a token.
+function comment(text, place, before) {
+  COMMENT.lastIndex = place;
+  const mark = before.filter((one) => one === '`').length % 2 ? null : COMMENT.exec(text);
+  if (!mark) return null;
+  return [place, place + mark[0].length, `\`${mark[0]}\` begins ${before.length ? 'no symbol of the notation' : 'no command'}; comments are (* .. *)`];
 }
 
 // A backquote that is missing: quotations have two each.
@@ -37,6 +46,12 @@ function unpaired(text, places) {
     if (words.some((found) => found[1] in COMMANDS)) return places[at];
   }
   return places[places.length - 1];
+}
+
+// A `;;` that is missing before a word, where the text fails there or behind it; what fails before would fail with a `;;` too.
+function missingBefore(text, place) {
+  const missing = missingEnd(text);
+  return missing && missing[0] <= place ? missing : null;
 }
 
 // A `;;` that is missing before a line that begins with a command's word, or before `qed`; nothing in quotations counts.
@@ -68,11 +83,17 @@ function noCommand(token) {
   return `\`${token}\` begins no command; commands begin with ${Object.keys(COMMANDS).join(', ')}`;
 }
 
+// A character; one that can't be seen by its number.
+function shown(code) {
+  const character = String.fromCodePoint(code);
+  return /[^\p{C}\p{Z}]| /u.test(character) ? character : `U+${code.toString(16).toUpperCase().padStart(4, '0')}`;
+}
+
 // The words for a token with which no command goes on, or for a character that begins none.
 function unexpected(text, place, token, before) {
   if (token === null) {
     const hint = text.startsWith('*)', place) ? '; `*)` closes no comment here' : '';
-    return [place, place + 1, `\`${String.fromCodePoint(text.codePointAt(place))}\` begins no symbol of the notation${hint}`];
+    return [place, place + 1, `\`${shown(text.codePointAt(place))}\` begins no symbol of the notation${hint}`];
   }
   const told = rule(text, place, before);
   if (told) return told;

@@ -18,6 +18,7 @@ _IN_TERMS = {
 }
 """Hints at tokens in a quotation."""
 _LINE_WORD = re.compile(r"\n[ \t\r]*([A-Za-z_][A-Za-z0-9_']*)")
+_COMMENT = re.compile(r"//|/\*|--|#|%")
 _GOES_ON = {"r": re.compile(r"\s*[0-9]"), "e": re.compile(r"\s*[A-Za-z(]"), "b": re.compile(r"\s*\Z|\s*\n")}
 """How a command goes on whose word may well be the name of a theorem."""
 
@@ -26,7 +27,7 @@ def explain(text: str, place: int) -> Told:
     """The words for refusal 1 at a place."""
     token = notation.token(text, place)
     before = notation.tokens_before(text, place)
-    told = unclosed(text) or missing_end(text) or _without_name(text, before)
+    told = _comment(text, place, before) or unclosed(text) or _missing_before(text, place) or _without_name(text, before)
     if told:
         return told
     if before == ["deftac"] and token:
@@ -44,6 +45,15 @@ def explain(text: str, place: int) -> Told:
     return _unexpected(text, place, token, before)
 
 
+def _comment(text: str, place: int, before: List[str]) -> Optional[Told]:
+    """A comment in another language's style, at which the text fails: none of these marks begins a token."""
+    found = _COMMENT.match(text, place)
+    if not found or before.count("`") % 2:
+        return None
+    begins = "no symbol of the notation" if before else "no command"
+    return place, found.end(), "`%s` begins %s; comments are (* .. *)" % (found.group(), begins)
+
+
 def unclosed(text: str) -> Optional[Told]:
     """A backquote that is missing: quotations have two each."""
     places = [at for at, character in enumerate(text) if character == "`"]
@@ -59,6 +69,12 @@ def _unpaired(text: str, places: List[int]) -> int:
         if any(word in notation.COMMANDS for word in _LINE_WORD.findall(text, first, second)):
             return first
     return places[-1]
+
+
+def _missing_before(text: str, place: int) -> Optional[Told]:
+    """A `;;` that is missing before a word, where the text fails there or behind it; what fails before would fail with a `;;` too."""
+    missing = missing_end(text)
+    return missing if missing and missing[0] <= place else None
 
 
 def missing_end(text: str) -> Optional[Told]:

@@ -396,7 +396,7 @@ class Words(InBrowser):
         "e FIRST_ASSUM REWRITE_TAC", "new_basic_type_definition A B C D E F", "e REFL_TAC THEN REFL_TAC", "e CHANGED_TAC ALL_TAC",
         "import A", "b x", "r x", "deftac", "deftac A", "deftac A A", "deftac (A)", "deftac A = TRY A", "deftac qed", "e DISCH_THEN (A)", "e A `x`", "e SUBGOAL_THEN `p` A",
         "e A THEN A THENL []", "e (A) ORELSE A [x]", "e ALL_TAC\ndeftac A ALL_TAC",
-        "new_definition A `x (y:B) = x y`",
+        "new_definition A `x (y:B) = x y`", "// a `b`\ne A", "/* a\nqed", "e A -- `b`\nqed", "# g\ng A `x # y`", "g A `%` % x", "e A)\nqed", "e\u00a0A \u2028 é",
     ]
     PIECES = ["(*", "*)", ";;", "∀", "∃!", "∃", "¬", "→", "`", " ", "\n", "a", "=", "\\", "😀", "\ufeff", "g A `p`", "/", "\\/"]
 

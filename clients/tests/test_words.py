@@ -91,6 +91,16 @@ class OfSlips(unittest.TestCase):
         self.assertEqual(said("e REWRITE_TAC [x;\n  r; s]", 5, "s"), "no theorem s stands before this command")
         self.assertEqual(self.marked("e REWRITE_TAC [x]\nr 2", 1, "18")[1], "a `;;` is missing before `r`")
 
+    def test_no_end_is_missing_where_the_text_fails_before(self):
+        for mark in ("//", "/*", "--", "#", "%"):
+            text = mark + " comment `x`\ne ACCEPT_TAC TRUTH"
+            self.assertEqual(self.marked(text, 1, "0"), (mark, "`%s` begins no command; comments are (* .. *)" % mark))
+            self.assertEqual(self.marked("e REFL_TAC %s a `" % mark, 1, "11")[1], "`%s` begins no symbol of the notation; comments are (* .. *)" % mark)
+            self.assertNotIn("comments", said("g A `x %s`" % mark, 1, "7"))
+        self.assertIn("`foo` begins no command", said("foo\ne REFL_TAC", 1, "0"))
+        self.assertEqual(self.marked("e REFL_TAC)\nqed", 1, "10")[0], ")")
+        self.assertEqual(self.marked("e (REFL_TAC\nqed)", 1, "15"), ("qed", "a `;;` is missing before `qed`"))
+
     def test_a_backquote_is_missing(self):
         self.assertEqual(self.marked("g A `x = x", 1, "10"), ("`", "this quotation is never closed: a backquote is missing"))
         start, _, _ = explain("g A `p\n\ne SPEC_TAC (`x`,`y`)", Refusal(1, "9", ""))
