@@ -1,5 +1,5 @@
 // Refusals of commands in words: where the error stands in the command's text, and what to do about it.
-import { ELSEWHERE, FITS, FIXED, FORWARD, HANDING, OF_COMMANDS, OF_TACTICALS, QUOTED, RECURSIVE, TACS } from './tables.js';
+import { ELSEWHERE, FITS, FIXED, FORWARD, HANDING, OF_COMMANDS, OF_TACTICALS, QUOTED, RECURSIVE, RULES, TACS } from './tables.js';
 import { hasTactical, isMadeName, near, quotation, token, tokensBefore, withoutQuotations, wordRanges } from './notation.js';
 import { explain as explainSyntax, missingEnd } from './syntax.js';
 
@@ -37,6 +37,7 @@ function wordsOf(text, { number, argument, text: said }, start, opened) {
   const own = OF_COMMANDS[token(text, 0) ?? ''] ?? {};
   if (number in own) return own[number].replace('%s', () => argument);
   if (number === NUMBERS.notClosed && tokensBefore(text, text.length)[3] === argument) return RECURSIVE.replace('%s', () => argument);
+  if (number === NUMBERS.badRule && argument in RULES) return `${argument} doesn't fit what it is given: it wants ${RULES[argument]}`;
   return (FIXED[number] ?? `${said} %s`).replace('%s', () => argument).trim();
 }
 

@@ -13,7 +13,7 @@ Told = syntax.Told
 _FIXED = {
     protocol.NO_PROOF: "no proof is open here: begin one by g NAME `term`;;",
     protocol.TOO_LARGE: "too large: a term here has over 20,000 nodes, those of its types counted; split the statement",
-    protocol.BAD_RULE: "a rule of a theorem expression doesn't fit its theorem: %s",
+    protocol.BAD_RULE: "%s doesn't fit what it is given",
     protocol.HYPOTHESES: "%s was given a theorem with a hypothesis that is none of the goal's assumptions",
     protocol.NO_GOAL: "no goal is left here: end the proof by qed;;",
     protocol.TURN_LIMIT: "the turn limit was reached: a function doesn't end (rewriting? ONCE_REWRITE_TAC, or SUBST1_TAC at an instance), or "
@@ -91,6 +91,8 @@ def explain(text: str, refusal: Refusal, opened: Optional[str] = None) -> Told:
         words = own[number].replace("%s", refusal.argument)
     elif number == protocol.NOT_CLOSED and notation.tokens_before(text, len(text))[3:4] == [refusal.argument]:
         words = _RECURSIVE % refusal.argument
+    elif number == protocol.BAD_RULE and refusal.argument in _RULES:
+        words = "%s doesn't fit what it is given: it wants %s" % (refusal.argument, _RULES[refusal.argument])
     else:
         words = _FIXED.get(number, refusal.text + " %s").replace("%s", refusal.argument).strip()
     return start, end, words + _inside(text, number, refusal.argument)
@@ -198,6 +200,16 @@ _FITS = {
     "DISCH_THEN": "p ==> q or ~p", "POP_ASSUM": "a goal with an assumption", "FIRST_ASSUM": "an assumption that its function takes",
 }
 """What functions on goals and tacticals want, where they refuse some goals."""
+
+_RULES = {
+    "ASSUME": "a term of type bool: write p:bool", "REFL": "a term",
+    "SPEC": "a theorem !x. p and a term of x's type: annotate the term, or INST_TYPE the theorem",
+    "SYM": "a theorem s = t: of !x. s = t take the ! off by SPEC",
+    "CONJUNCT1": "a theorem p /\\ q: of !x. p /\\ q take the ! off by SPEC", "CONJUNCT2": "a theorem p /\\ q: of !x. p /\\ q take the ! off by SPEC",
+    "MP": "a theorem p ==> q and then the theorem p: of !x. p ==> q take the ! off by SPEC; ~p and p <=> q are no implications",
+    "INST_TYPE": "pairs of a type and the type variable that it is put for, as [`:bool`, `:A`]",
+}
+"""What the rules of theorem expressions want. (REFL takes any term.)"""
 
 _OF_CALLS = (protocol.HYPOTHESES, protocol.REFUSED)
 """The refusals that name what was run."""

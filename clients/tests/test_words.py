@@ -1,5 +1,6 @@
 """What is said of refusals."""
 
+import re
 import unittest
 
 from holls import notation
@@ -125,6 +126,15 @@ class OfSlips(unittest.TestCase):
         wanting = [name for name in notation.TACS if "wants" in said("e " + name, 17, name)]
         never = ["ALL_TAC", "MP_TAC", "ASSUME_TAC", "STRIP_ASSUME_TAC", "BETA_TAC"]
         self.assertEqual(set(notation.TACS) - set(wanting), set(never) | {name for name in notation.TACS if "REWRITE" in name})
+
+    def test_what_each_rule_wants(self):
+        source = (ROOT / "crates" / "hol_resolve" / "src" / "forward_rule.rt").read_text(encoding="utf-8")
+        self.assertEqual(sorted(re.findall(r'ForwardRule::\w+ => "(\w+)"', source)), sorted(notation.FORWARD))
+        for name, form in notation.FORWARD.items():
+            word, words = self.marked("e ACCEPT_TAC (%s)" % form, 14, name)
+            self.assertEqual((word, words.startswith(name + " doesn't fit what it is given: it wants ")), (name, True), words)
+        self.assertIn("INST_TYPE the theorem", said("e ACCEPT_TAC (SPEC `x` REFL_CLAUSE)", 14, "SPEC"))
+        self.assertIn("write p:bool", said("e ACCEPT_TAC (ASSUME `x`)", 14, "ASSUME"))
 
     def test_what_does_not_end(self):
         for number in (13, 18):
