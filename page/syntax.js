@@ -6,6 +6,11 @@ const LINE_WORD = /\n[ \t\r]*([A-Za-z_][A-Za-z0-9_']*)/g;
 const COMMENT = /\/\/|\/\*|--|#|%/y;
 const GOES_ON = { __proto__: null, r: /^\s*[0-9]/, e: /^\s*[A-Za-z(]/, b: /^\s*$|^\s*\n/ };
 
+const OPERATORS = '+-*<>';
+
+// Whether what follows these tokens stands in a quotation.
+const isQuotedAt = (before) => before.filter((one) => one === '`').length % 2 === 1;
+
 // The words for refusal 1 at a place.
 export function explain(text, place) {
   const token = tokenAt(text, place);
@@ -27,7 +32,7 @@ export function explain(text, place) {
 // A comment in another language's style, at which the text fails: none of these marks begins a token.
 function comment(text, place, before) {
   COMMENT.lastIndex = place;
-  const mark = before.filter((one) => one === '`').length % 2 ? null : COMMENT.exec(text);
+  const mark = isQuotedAt(before) ? null : COMMENT.exec(text);
   if (!mark) return null;
   return [place, place + mark[0].length, `\`${mark[0]}\` begins ${before.length ? 'no symbol of the notation' : 'no command'}; comments are (* .. *)`];
 }
@@ -92,27 +97,43 @@ function shown(code) {
 // The words for a token with which no command goes on, or for a character that begins none.
 function unexpected(text, place, token, before) {
   if (token === null) {
-    const hint = text.startsWith('*)', place) ? '; `*)` closes no comment here' : '';
+    const isOperator = OPERATORS.includes(text[place]) && isQuotedAt(before);
+    const hint = text.startsWith('*)', place) ? '; `*)` closes no comment here' : isOperator ? IN_TERMS['+'] : '';
     return [place, place + 1, `\`${shown(text.codePointAt(place))}\` begins no symbol of the notation${hint}`];
   }
-  const told = rule(text, place, before);
-  if (told) return told;
-  const isQuoted = before.filter((one) => one === '`').length % 2 === 1;
-  let hint = isQuoted ? IN_TERMS[token] ?? '' : token === ';' ? '; a command ends with `;;`' : '';
-  if (before[0] === 'deftac' && before.length === 2 && token === '=') hint = `; the expression stands right behind the name: ${COMMANDS.deftac}`;
-  if (text.startsWith('new_type') && /^[0-9]+$/.test(token)) hint = '; a type constructor takes 0 to 16 arguments';
+  return rule(text, place, before) ?? [place, place + token.length, `no command goes on with \`${token}\` here${hintAt(text, token, before)}`];
+}
+
+// What was probably meant by a token with which no command goes on.
+function hintAt(text, token, before) {
+  const isWord = /^[A-Za-z_]/.test(token);
+  if (before[0] === 'deftac' && before.length === 2 && token === '=') return `; the expression stands right behind the name: ${COMMANDS.deftac}`;
+  if (text.startsWith('new_type') && /^[0-9]/.test(token)) return '; a type constructor takes 0 to 16 arguments';
   if (text.startsWith('new_definition') && ['/\\', '\\/', '==>', '<=>'].includes(token)) {
-    hint = "; the right side of a definition's = stands in parentheses, or has <=> before it";
+    return "; the right side of a definition's = stands in parentheses, or has <=> before it";
   }
-  return [place, place + token.length, `no command goes on with \`${token}\` here${hint}`];
+  if (!isQuotedAt(before)) return token === ';' ? '; a command ends with `;;`' : '';
+  if (before[0] === 'new_definition') return isWord ? inDefinition(token, before.slice(3)) : inTerm(token);
+  if (before[before.length - 1] === '`' && (isWord || token === '(')) return "; a type's quotation begins with `:`";
+  return inTerm(token);
+}
+
+// The hint at a token of a quotation.
+const inTerm = (token) => IN_TERMS[/^[0-9]/.test(token) ? '0' : token] ?? '';
+
+// The hint at a name behind what stands before it in a definition's quotation: as an argument, each name stands once.
+function inDefinition(token, before) {
+  const isInParentheses = before.filter((one) => one === '(').length > before.filter((one) => one === ')').length;
+  if (!before.length || before.includes('=') || before.includes('<=>') || (isInParentheses && before[before.length - 1] !== '(')) return '';
+  if (token === before[0]) return '; no argument may have the name of the constant';
+  return before.includes(token) ? `; the argument ${token} stands twice` : '';
 }
 
 // A name that is used as a forward rule, and is none: as GSYM in [GSYM th].
 function rule(text, place, before) {
   const name = before[before.length - 1];
   const opening = before[before.length - 2];
-  const isQuoted = before.filter((one) => one === '`').length % 2 === 1;
-  if (before.length < 2 || !['[', '(', ';'].includes(opening) || isQuoted || !/^[A-Za-z]/.test(name)) return null;
+  if (before.length < 2 || !['[', '(', ';'].includes(opening) || isQuotedAt(before) || !/^[A-Za-z]/.test(name)) return null;
   if (name in FORWARD || name in TACS || TACTICALS.includes(name)) return null;
   const start = text.lastIndexOf(name, place - name.length);
   const instead = RULES_ELSEWHERE[name];

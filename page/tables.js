@@ -663,7 +663,9 @@ export const IN_TERMS = {
  "!": "; a binder as an argument stands in parentheses: f (!x. P x)",
  "\\": "; a binder as an argument stands in parentheses: f (\\x. t)",
  "`": "; the quotation ends too soon, or a backquote is missing",
- ":": "; a binder's variable with a type before another one stands in parentheses: !(x:A) y. p"
+ ":": "; a binder's variable with a type before another one stands in parentheses: !(x:A) y. p",
+ "0": "; there are no numerals: theories/numbers.hol has _0 and SUC, and 1 is SUC _0",
+ "+": "; there are no operators on numbers: theories/arithmetic.hol has functions, as add m n"
 };
 export const SYMBOLS = {
  "__proto__": null,

@@ -149,6 +149,29 @@ class OfSlips(unittest.TestCase):
         self.assertIn("binder as an argument", said("g A `f !x. P`", 1, "7"))
         self.assertNotIn("binder", said("e ACCEPT_TAC !x", 1, "13"))
 
+    def test_numerals_and_operators_in_terms(self):
+        for text, place, told in (("g A `1 + 1 = 2`", "5", "1"), ("g A `x = 12`", "9", "12"), ("new_definition A `a = 0`", "22", "0")):
+            word, words = self.marked(text, 1, place)
+            self.assertEqual((word, "there are no numerals" in words, "SUC _0" in words), (told, True, True), words)
+        for operator in "+-*<>":
+            self.assertIn("as add m n", said("g A `x %s y`" % operator, 1, "7"))
+        self.assertNotIn("numerals", said("e REWRITE_TAC 1", 1, "14"))
+        self.assertNotIn("add m n", said("e REFL_TAC + x", 1, "11"))
+        self.assertIn("closes no comment", said("g A `x *) y`", 1, "7"))
+
+    def test_a_types_quotation(self):
+        for text, place in (("new_constant c `t`", "16"), ("new_constant c `(t)`", "16"), ("e ACCEPT_TAC (INST_TYPE [`:A`,`B`] TH)", "31")):
+            self.assertIn("a type's quotation begins with `:`", said(text, 1, place))
+        self.assertNotIn("type", said("new_definition D `(f x) = x`", 1, "18"))
+        self.assertNotIn("a type's quotation", said("g A `:bool`", 1, "5"))
+
+    def test_a_definitions_arguments(self):
+        for text, place in (("new_definition W `w x x = x`", "22"), ("new_definition W `w (x:A) (x:B) = x`", "27"), ("new_definition W `w x y (x:A) = x`", "25")):
+            self.assertEqual(self.marked(text, 1, place), ("x", "no command goes on with `x` here; the argument x stands twice"))
+        self.assertIn("no argument may have the name of the constant", said("new_definition W `w w = w`", 1, "20"))
+        self.assertNotIn("twice", said("new_definition W `w (x x) = x`", 1, "23"))
+        self.assertNotIn("twice", said("new_definition W `w x = (!(x x. p))`", 1, "29"))
+
     def test_what_a_tactical_hands_over(self):
         words = said("e POP_ASSUM (REWRITE_TAC)", 6, "REWRITE_TAC")
         self.assertIn("POP_ASSUM hands a theorem to the function behind it, and REWRITE_TAC takes a list of theorems", words)
