@@ -32,7 +32,8 @@ TABLES = {
     "MANUAL": {kind: entries(getattr(manual, kind.upper())) for kind in ("commands", "functions", "tacticals", "rules")},
     "PRELUDE": manual.PRELUDE, "CONSTANTS": manual.CONSTANTS, "TYPES": manual.TYPES,
     "FIXED": words._FIXED, "OF_COMMANDS": words._OF_COMMANDS, "QUOTED": words._QUOTED, "FITS": words._FITS,
-    "OF_TACTICALS": words._OF_TACTICALS, "IN_TERMS": syntax._IN_TERMS, "SYMBOLS": text.SYMBOLS, "RESERVED": sorted(protocol.RESERVED),
+    "OF_TACTICALS": words._OF_TACTICALS, "RECURSIVE": words._RECURSIVE, "RULES": words._RULES, "IN_TERMS": syntax._IN_TERMS, "SYMBOLS": text.SYMBOLS,
+    "RESERVED": sorted(protocol.RESERVED),
     "LIMITS": {"bytes": protocol.LINE_BYTES, "commands": protocol.COMMANDS, "theories": protocol.THEORIES, "name": protocol.NAME_BYTES,
                "tokens": protocol.TOKENS, "brackets": protocol.BRACKETS},
 }

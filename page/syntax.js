@@ -3,13 +3,19 @@ import { COMMANDS, FORWARD, IN_TERMS, LIMITS, RULES_ELSEWHERE, TACS, TACTICALS }
 import { nearCommand, token as tokenAt, tokensBefore, withoutQuotations } from './notation.js';
 
 const LINE_WORD = /\n[ \t\r]*([A-Za-z_][A-Za-z0-9_']*)/g;
+const COMMENT = /\/\/|\/\*|--|#|%/y;
 const GOES_ON = { __proto__: null, r: /^\s*[0-9]/, e: /^\s*[A-Za-z(]/, b: /^\s*$|^\s*\n/ };
+
+const OPERATORS = '+-*<>';
+
+// Whether what follows these tokens stands in a quotation.
+const isQuotedAt = (before) => before.filter((one) => one === '`').length % 2 === 1;
 
 // The words for refusal 1 at a place.
 export function explain(text, place) {
   const token = tokenAt(text, place);
   const before = tokensBefore(text, place);
-  const told = unclosed(text) ?? missingEnd(text) ?? withoutName(text, before);
+  const told = comment(text, place, before) ?? unclosed(text) ?? missingBefore(text, place) ?? withoutName(text, before);
   if (told) return told;
   if (before.length === 1 && before[0] === 'deftac' && token) {
     return [place, place + token.length, `a name is missing before the expression: ${COMMANDS.deftac}`];
@@ -21,6 +27,14 @@ export function explain(text, place) {
   const count = (brackets) => before.filter((one) => brackets.includes(one)).length;
   if (count('([') - count(')]') >= LIMITS.brackets) return [place, place + 1, `more than ${LIMITS.brackets} brackets are open at once here`];
   return unexpected(text, place, token, before);
+}
+
+// A comment in another language's style, at which the text fails: none of these marks begins a token.
+function comment(text, place, before) {
+  COMMENT.lastIndex = place;
+  const mark = isQuotedAt(before) ? null : COMMENT.exec(text);
+  if (!mark) return null;
+  return [place, place + mark[0].length, `\`${mark[0]}\` begins ${before.length ? 'no symbol of the notation' : 'no command'}; comments are (* .. *)`];
 }
 
 // A backquote that is missing: quotations have two each.
@@ -37,6 +51,12 @@ function unpaired(text, places) {
     if (words.some((found) => found[1] in COMMANDS)) return places[at];
   }
   return places[places.length - 1];
+}
+
+// A `;;` that is missing before a word, where the text fails there or behind it; what fails before would fail with a `;;` too.
+function missingBefore(text, place) {
+  const missing = missingEnd(text);
+  return missing && missing[0] <= place ? missing : null;
 }
 
 // A `;;` that is missing before a line that begins with a command's word, or before `qed`; nothing in quotations counts.
@@ -68,30 +88,52 @@ function noCommand(token) {
   return `\`${token}\` begins no command; commands begin with ${Object.keys(COMMANDS).join(', ')}`;
 }
 
+// A character; one that can't be seen by its number.
+function shown(code) {
+  const character = String.fromCodePoint(code);
+  return /[^\p{C}\p{Z}]| /u.test(character) ? character : `U+${code.toString(16).toUpperCase().padStart(4, '0')}`;
+}
+
 // The words for a token with which no command goes on, or for a character that begins none.
 function unexpected(text, place, token, before) {
   if (token === null) {
-    const hint = text.startsWith('*)', place) ? '; `*)` closes no comment here' : '';
-    return [place, place + 1, `\`${String.fromCodePoint(text.codePointAt(place))}\` begins no symbol of the notation${hint}`];
+    const isOperator = OPERATORS.includes(text[place]) && isQuotedAt(before);
+    const hint = text.startsWith('*)', place) ? '; `*)` closes no comment here' : isOperator ? IN_TERMS['+'] : '';
+    return [place, place + 1, `\`${shown(text.codePointAt(place))}\` begins no symbol of the notation${hint}`];
   }
-  const told = rule(text, place, before);
-  if (told) return told;
-  const isQuoted = before.filter((one) => one === '`').length % 2 === 1;
-  let hint = isQuoted ? IN_TERMS[token] ?? '' : token === ';' ? '; a command ends with `;;`' : '';
-  if (before[0] === 'deftac' && before.length === 2 && token === '=') hint = `; the expression stands right behind the name: ${COMMANDS.deftac}`;
-  if (text.startsWith('new_type') && /^[0-9]+$/.test(token)) hint = '; a type constructor takes 0 to 16 arguments';
+  return rule(text, place, before) ?? [place, place + token.length, `no command goes on with \`${token}\` here${hintAt(text, token, before)}`];
+}
+
+// What was probably meant by a token with which no command goes on.
+function hintAt(text, token, before) {
+  const isWord = /^[A-Za-z_]/.test(token);
+  if (before[0] === 'deftac' && before.length === 2 && token === '=') return `; the expression stands right behind the name: ${COMMANDS.deftac}`;
+  if (text.startsWith('new_type') && /^[0-9]/.test(token)) return '; a type constructor takes 0 to 16 arguments';
   if (text.startsWith('new_definition') && ['/\\', '\\/', '==>', '<=>'].includes(token)) {
-    hint = "; the right side of a definition's = stands in parentheses, or has <=> before it";
+    return "; the right side of a definition's = stands in parentheses, or has <=> before it";
   }
-  return [place, place + token.length, `no command goes on with \`${token}\` here${hint}`];
+  if (!isQuotedAt(before)) return token === ';' ? '; a command ends with `;;`' : '';
+  if (before[0] === 'new_definition') return isWord ? inDefinition(token, before.slice(3)) : inTerm(token);
+  if (before[before.length - 1] === '`' && (isWord || token === '(')) return "; a type's quotation begins with `:`";
+  return inTerm(token);
+}
+
+// The hint at a token of a quotation.
+const inTerm = (token) => IN_TERMS[/^[0-9]/.test(token) ? '0' : token] ?? '';
+
+// The hint at a name behind what stands before it in a definition's quotation: as an argument, each name stands once.
+function inDefinition(token, before) {
+  const isInParentheses = before.filter((one) => one === '(').length > before.filter((one) => one === ')').length;
+  if (!before.length || before.includes('=') || before.includes('<=>') || (isInParentheses && before[before.length - 1] !== '(')) return '';
+  if (token === before[0]) return '; no argument may have the name of the constant';
+  return before.includes(token) ? `; the argument ${token} stands twice` : '';
 }
 
 // A name that is used as a forward rule, and is none: as GSYM in [GSYM th].
 function rule(text, place, before) {
   const name = before[before.length - 1];
   const opening = before[before.length - 2];
-  const isQuoted = before.filter((one) => one === '`').length % 2 === 1;
-  if (before.length < 2 || !['[', '(', ';'].includes(opening) || isQuoted || !/^[A-Za-z]/.test(name)) return null;
+  if (before.length < 2 || !['[', '(', ';'].includes(opening) || isQuotedAt(before) || !/^[A-Za-z]/.test(name)) return null;
   if (name in FORWARD || name in TACS || TACTICALS.includes(name)) return null;
   const start = text.lastIndexOf(name, place - name.length);
   const instead = RULES_ELSEWHERE[name];

@@ -577,10 +577,10 @@ export const FIXED = {
  "__proto__": null,
  "3": "no proof is open here: begin one by g NAME `term`;;",
  "13": "too large: a term here has over 20,000 nodes, those of its types counted; split the statement",
- "14": "a rule of a theorem expression doesn't fit its theorem: %s",
+ "14": "%s doesn't fit what it is given",
  "15": "%s was given a theorem with a hypothesis that is none of the goal's assumptions",
  "16": "no goal is left here: end the proof by qed;;",
- "18": "the turn limit was reached: the function doesn't end, or needs a larger --turns",
+ "18": "the turn limit was reached: a function doesn't end (rewriting? ONCE_REWRITE_TAC, or SUBST1_TAC at an instance), or takes more turns than a step has: split it into several e",
  "19": "the proof isn't done: goals remain",
  "20": "nothing to undo: the proof is at its beginning",
  "21": "the import gives %s another value than the one that stands here: rename one of the two",
@@ -595,6 +595,10 @@ export const OF_COMMANDS = {
   "__proto__": null,
   "11": "%s is free in the P of the theorem `P x`: the type's condition has to be closed",
   "14": "%s takes a theorem `P x` as its last name, and this one is no application"
+ },
+ "e": {
+  "__proto__": null,
+  "13": "too large: a term here or a term that a function makes has over 20,000 nodes, those of its types counted: rewriting that doesn't end? ONCE_REWRITE_TAC, or SUBST1_TAC at an instance"
  },
  "deftac": {
   "__proto__": null,
@@ -642,12 +646,26 @@ export const OF_TACTICALS = {
  "FIRST": "FIRST has nothing to try",
  "CHANGED_TAC": "what CHANGED_TAC runs leaves the goal as it was"
 };
+export const RECURSIVE = "%s stands on its own right side: a definition can't be recursive; a function on numbers or lists takes num_REC or list_REC (theories/README.md, Definitions by recursion)";
+export const RULES = {
+ "__proto__": null,
+ "ASSUME": "a term of type bool: write p:bool",
+ "REFL": "a term",
+ "SPEC": "a theorem !x. p and a term of x's type: annotate the term, or INST_TYPE the theorem",
+ "SYM": "a theorem s = t: of !x. s = t take the ! off by SPEC",
+ "CONJUNCT1": "a theorem p /\\ q: of !x. p /\\ q take the ! off by SPEC",
+ "CONJUNCT2": "a theorem p /\\ q: of !x. p /\\ q take the ! off by SPEC",
+ "MP": "a theorem p ==> q and then the theorem p: of !x. p ==> q take the ! off by SPEC; ~p and p <=> q are no implications",
+ "INST_TYPE": "pairs of a type and the type variable that it is put for, as [`:bool`, `:A`]"
+};
 export const IN_TERMS = {
  "__proto__": null,
  "!": "; a binder as an argument stands in parentheses: f (!x. P x)",
  "\\": "; a binder as an argument stands in parentheses: f (\\x. t)",
  "`": "; the quotation ends too soon, or a backquote is missing",
- ":": "; a binder's variable with a type before another one stands in parentheses: !(x:A) y. p"
+ ":": "; a binder's variable with a type before another one stands in parentheses: !(x:A) y. p",
+ "0": "; there are no numerals: theories/numbers.hol has _0 and SUC, and 1 is SUC _0",
+ "+": "; there are no operators on numbers: theories/arithmetic.hol has functions, as add m n"
 };
 export const SYMBOLS = {
  "__proto__": null,

@@ -1,11 +1,11 @@
 // Refusals of commands in words: where the error stands in the command's text, and what to do about it.
-import { ELSEWHERE, FITS, FIXED, FORWARD, HANDING, OF_COMMANDS, OF_TACTICALS, QUOTED, TACS } from './tables.js';
+import { ELSEWHERE, FITS, FIXED, FORWARD, HANDING, OF_COMMANDS, OF_TACTICALS, QUOTED, RECURSIVE, RULES, TACS } from './tables.js';
 import { hasTactical, isMadeName, near, quotation, token, tokensBefore, withoutQuotations, wordRanges } from './notation.js';
 import { explain as explainSyntax, missingEnd } from './syntax.js';
 
 export const NUMBERS = {
   syntax: 1, inAProof: 2, noProof: 3, unknownTheory: 4, unknownTheorem: 5, unknownTac: 6, untypable: 7, notBool: 8, arity: 9, nameTaken: 10,
-  badRule: 14, hypotheses: 15, refused: 17, goalsRemain: 19, importClash: 21,
+  notClosed: 11, badRule: 14, hypotheses: 15, refused: 17, goalsRemain: 19, importClash: 21,
 };
 const KINDS = { __proto__: null, thm: 'the theorem', const: 'the constant', type: 'the type', tac: 'the function on goals' };
 // The refusals that name what was run.
@@ -36,6 +36,8 @@ function wordsOf(text, { number, argument, text: said }, start, opened) {
   if (number === NUMBERS.importClash) return FIXED[number].replace('%s', () => keyOf(argument));
   const own = OF_COMMANDS[token(text, 0) ?? ''] ?? {};
   if (number in own) return own[number].replace('%s', () => argument);
+  if (number === NUMBERS.notClosed && tokensBefore(text, text.length)[3] === argument) return RECURSIVE.replace('%s', () => argument);
+  if (number === NUMBERS.badRule && argument in RULES) return `${argument} doesn't fit what it is given: it wants ${RULES[argument]}`;
   return (FIXED[number] ?? `${said} %s`).replace('%s', () => argument).trim();
 }
 

@@ -15,9 +15,13 @@ _IN_TERMS = {
     "\\": "; a binder as an argument stands in parentheses: f (\\x. t)",
     "`": "; the quotation ends too soon, or a backquote is missing",
     ":": "; a binder's variable with a type before another one stands in parentheses: !(x:A) y. p",
+    "0": "; there are no numerals: theories/numbers.hol has _0 and SUC, and 1 is SUC _0",
+    "+": "; there are no operators on numbers: theories/arithmetic.hol has functions, as add m n",
 }
-"""Hints at tokens in a quotation."""
+"""Hints at tokens in a quotation, that at "0" for each numeral, that at "+" for each of _OPERATORS."""
+_OPERATORS = "+-*<>"
 _LINE_WORD = re.compile(r"\n[ \t\r]*([A-Za-z_][A-Za-z0-9_']*)")
+_COMMENT = re.compile(r"//|/\*|--|#|%")
 _GOES_ON = {"r": re.compile(r"\s*[0-9]"), "e": re.compile(r"\s*[A-Za-z(]"), "b": re.compile(r"\s*\Z|\s*\n")}
 """How a command goes on whose word may well be the name of a theorem."""
 
@@ -26,7 +30,7 @@ def explain(text: str, place: int) -> Told:
     """The words for refusal 1 at a place."""
     token = notation.token(text, place)
     before = notation.tokens_before(text, place)
-    told = unclosed(text) or missing_end(text) or _without_name(text, before)
+    told = _comment(text, place, before) or unclosed(text) or _missing_before(text, place) or _without_name(text, before)
     if told:
         return told
     if before == ["deftac"] and token:
@@ -44,6 +48,15 @@ def explain(text: str, place: int) -> Told:
     return _unexpected(text, place, token, before)
 
 
+def _comment(text: str, place: int, before: List[str]) -> Optional[Told]:
+    """A comment in another language's style, at which the text fails: none of these marks begins a token."""
+    found = _COMMENT.match(text, place)
+    if not found or before.count("`") % 2:
+        return None
+    begins = "no symbol of the notation" if before else "no command"
+    return place, found.end(), "`%s` begins %s; comments are (* .. *)" % (found.group(), begins)
+
+
 def unclosed(text: str) -> Optional[Told]:
     """A backquote that is missing: quotations have two each."""
     places = [at for at, character in enumerate(text) if character == "`"]
@@ -59,6 +72,12 @@ def _unpaired(text: str, places: List[int]) -> int:
         if any(word in notation.COMMANDS for word in _LINE_WORD.findall(text, first, second)):
             return first
     return places[-1]
+
+
+def _missing_before(text: str, place: int) -> Optional[Told]:
+    """A `;;` that is missing before a word, where the text fails there or behind it; what fails before would fail with a `;;` too."""
+    missing = missing_end(text)
+    return missing if missing and missing[0] <= place else None
 
 
 def missing_end(text: str) -> Optional[Told]:
@@ -99,20 +118,46 @@ def _unexpected(text: str, place: int, token: Optional[str], before: List[str]) 
     """The words for a token with which no command goes on, or for a character that begins none."""
     if token is None:
         shown = text[place] if text[place].isprintable() else "U+%04X" % ord(text[place])
-        hint = "; `*)` closes no comment here" if text.startswith("*)", place) else ""
+        is_operator = text[place] in _OPERATORS and before.count("`") % 2
+        hint = "; `*)` closes no comment here" if text.startswith("*)", place) else _IN_TERMS["+"] if is_operator else ""
         return place, place + 1, "`%s` begins no symbol of the notation%s" % (shown, hint)
     rule = _rule(text, place, before)
     if rule:
         return rule
-    is_quoted = before.count("`") % 2 == 1
-    hint = _IN_TERMS.get(token, "") if is_quoted else "; a command ends with `;;`" if token == ";" else ""
+    return place, place + len(token), "no command goes on with `%s` here%s" % (token, _hint(text, token, before))
+
+
+def _hint(text: str, token: str, before: List[str]) -> str:
+    """What was probably meant by a token with which no command goes on."""
+    is_word = token[0].isalpha() or token[0] == "_"
     if before[:1] == ["deftac"] and len(before) == 2 and token == "=":
-        hint = "; the expression stands right behind the name: %s" % notation.COMMANDS["deftac"]
+        return "; the expression stands right behind the name: %s" % notation.COMMANDS["deftac"]
     if text.startswith("new_type") and token.isdigit():
-        hint = "; a type constructor takes 0 to 16 arguments"
+        return "; a type constructor takes 0 to 16 arguments"
     if text.startswith("new_definition") and token in ("/\\", "\\/", "==>", "<=>"):
-        hint = "; the right side of a definition's = stands in parentheses, or has <=> before it"
-    return place, place + len(token), "no command goes on with `%s` here%s" % (token, hint)
+        return "; the right side of a definition's = stands in parentheses, or has <=> before it"
+    if before.count("`") % 2 == 0:
+        return "; a command ends with `;;`" if token == ";" else ""
+    if before[0] == "new_definition":
+        return _in_definition(token, before[3:]) if is_word else _in_term(token)
+    if before[-1] == "`" and (is_word or token == "("):
+        return "; a type's quotation begins with `:`"
+    return _in_term(token)
+
+
+def _in_term(token: str) -> str:
+    """The hint at a token of a quotation."""
+    return _IN_TERMS.get("0" if token.isdigit() else token, "")
+
+
+def _in_definition(token: str, before: List[str]) -> str:
+    """The hint at a name behind what stands before it in a definition's quotation: as an argument, each name stands once."""
+    is_in_parentheses = before.count("(") > before.count(")")
+    if not before or "=" in before or "<=>" in before or is_in_parentheses and before[-1] != "(":
+        return ""
+    if token == before[0]:
+        return "; no argument may have the name of the constant"
+    return "; the argument %s stands twice" % token if token in before else ""
 
 
 def _rule(text: str, place: int, before: List[str]) -> Optional[Told]:

@@ -13,10 +13,11 @@ Told = syntax.Told
 _FIXED = {
     protocol.NO_PROOF: "no proof is open here: begin one by g NAME `term`;;",
     protocol.TOO_LARGE: "too large: a term here has over 20,000 nodes, those of its types counted; split the statement",
-    protocol.BAD_RULE: "a rule of a theorem expression doesn't fit its theorem: %s",
+    protocol.BAD_RULE: "%s doesn't fit what it is given",
     protocol.HYPOTHESES: "%s was given a theorem with a hypothesis that is none of the goal's assumptions",
     protocol.NO_GOAL: "no goal is left here: end the proof by qed;;",
-    protocol.TURN_LIMIT: "the turn limit was reached: the function doesn't end, or needs a larger --turns",
+    protocol.TURN_LIMIT: "the turn limit was reached: a function doesn't end (rewriting? ONCE_REWRITE_TAC, or SUBST1_TAC at an instance), or "
+                         "takes more turns than a step has: split it into several e",
     protocol.GOALS_REMAIN: "the proof isn't done: goals remain",
     protocol.NOTHING_TO_UNDO: "nothing to undo: the proof is at its beginning",
     protocol.IMPORT_CLASH: "the import gives %s another value than the one that stands here: rename one of the two",
@@ -31,12 +32,20 @@ _OF_COMMANDS = {
         protocol.NOT_CLOSED: "%s is free in the P of the theorem `P x`: the type's condition has to be closed",
         protocol.BAD_RULE: "%s takes a theorem `P x` as its last name, and this one is no application",
     },
+    "e": {
+        protocol.TOO_LARGE: "too large: a term here or a term that a function makes has over 20,000 nodes, those of its types counted: rewriting that "
+                            "doesn't end? ONCE_REWRITE_TAC, or SUBST1_TAC at an instance",
+    },
     "deftac": {
         protocol.TOO_LARGE: "too large: a term here, or the expression with its terms, its theorems and the expressions that it names, has over "
                             "20,000 nodes",
     },
 }
 """What some commands' refusals say."""
+
+_RECURSIVE = ("%s stands on its own right side: a definition can't be recursive; a function on numbers or lists takes num_REC or list_REC "
+              "(theories/README.md, Definitions by recursion)")
+"""What refusal 11 says of a definition's own constant, which is free on the right."""
 
 _ARGUMENT = re.compile(r"\s*([`(\[]|(?!(THEN|THENL|ORELSE)(?![A-Za-z0-9_']))[A-Za-z_])")
 """An argument behind a function's name."""
@@ -80,6 +89,10 @@ def explain(text: str, refusal: Refusal, opened: Optional[str] = None) -> Told:
         words = _FIXED[number] % _key(refusal.argument)
     elif number in own:
         words = own[number].replace("%s", refusal.argument)
+    elif number == protocol.NOT_CLOSED and notation.tokens_before(text, len(text))[3:4] == [refusal.argument]:
+        words = _RECURSIVE % refusal.argument
+    elif number == protocol.BAD_RULE and refusal.argument in _RULES:
+        words = "%s doesn't fit what it is given: it wants %s" % (refusal.argument, _RULES[refusal.argument])
     else:
         words = _FIXED.get(number, refusal.text + " %s").replace("%s", refusal.argument).strip()
     return start, end, words + _inside(text, number, refusal.argument)
@@ -187,6 +200,16 @@ _FITS = {
     "DISCH_THEN": "p ==> q or ~p", "POP_ASSUM": "a goal with an assumption", "FIRST_ASSUM": "an assumption that its function takes",
 }
 """What functions on goals and tacticals want, where they refuse some goals."""
+
+_RULES = {
+    "ASSUME": "a term of type bool: write p:bool", "REFL": "a term",
+    "SPEC": "a theorem !x. p and a term of x's type: annotate the term, or INST_TYPE the theorem",
+    "SYM": "a theorem s = t: of !x. s = t take the ! off by SPEC",
+    "CONJUNCT1": "a theorem p /\\ q: of !x. p /\\ q take the ! off by SPEC", "CONJUNCT2": "a theorem p /\\ q: of !x. p /\\ q take the ! off by SPEC",
+    "MP": "a theorem p ==> q and then the theorem p: of !x. p ==> q take the ! off by SPEC; ~p and p <=> q are no implications",
+    "INST_TYPE": "pairs of a type and the type variable that it is put for, as [`:bool`, `:A`]",
+}
+"""What the rules of theorem expressions want. (REFL takes any term.)"""
 
 _OF_CALLS = (protocol.HYPOTHESES, protocol.REFUSED)
 """The refusals that name what was run."""

@@ -396,6 +396,8 @@ class Words(InBrowser):
         "e FIRST_ASSUM REWRITE_TAC", "new_basic_type_definition A B C D E F", "e REFL_TAC THEN REFL_TAC", "e CHANGED_TAC ALL_TAC",
         "import A", "b x", "r x", "deftac", "deftac A", "deftac A A", "deftac (A)", "deftac A = TRY A", "deftac qed", "e DISCH_THEN (A)", "e A `x`", "e SUBGOAL_THEN `p` A",
         "e A THEN A THENL []", "e (A) ORELSE A [x]", "e ALL_TAC\ndeftac A ALL_TAC",
+        "new_definition A `x (y:B) = x y`", "// a `b`\ne A", "/* a\nqed", "e A -- `b`\nqed", "# g\ng A `x # y`", "g A `%` % x", "e A)\nqed", "e\u00a0A \u2028 é",
+        "g A `1 + 1 = 2 <> x*y-z`", "new_constant A `t`", "new_constant A `(A)B`", "e A (INST_TYPE [`bool`,`:A`] A)", "new_definition A `w x (x:w) w = x x`",
     ]
     PIECES = ["(*", "*)", ";;", "∀", "∃!", "∃", "¬", "→", "`", " ", "\n", "a", "=", "\\", "😀", "\ufeff", "g A `p`", "/", "\\/"]
 

@@ -1,10 +1,12 @@
 """What is said of refusals."""
 
+import re
 import unittest
 
 from holls import notation
 from holls.protocol import Refusal
 from holls.words import explain
+from tests.helpers import ROOT
 
 
 def said(text, number, argument):
@@ -17,6 +19,13 @@ class OfDefinitions(unittest.TestCase):
         self.assertIn("stands in parentheses", said("new_definition D `f x = x /\\ x`", 1, "26"))
         self.assertIn("make it an argument", said("new_definition D `f x = y`", 11, "y"))
         self.assertIn("0 to 16", said("new_type t 17", 1, "11"))
+
+    def test_a_recursive_one(self):
+        for text in ("new_definition Q `len (x:A) = len x`", "new_definition Q `len = len`", "new_definition Q\n` len x <=> !y. len y`"):
+            self.assertIn("len stands on its own right side: a definition can't be recursive", said(text, 11, "len"))
+        self.assertIn("Definitions by recursion", (ROOT / "theories" / "README.md").read_text(encoding="utf-8"))
+        self.assertEqual(said("new_definition Q `len (x:A) = f x`", 11, "f"), "f is free in what is defined: make it an argument of the constant")
+        self.assertIn("has to be closed", said("new_basic_type_definition ty abs rep N N TH", 11, "rep"))
 
     def test_a_type_definition(self):
         text = "new_basic_type_definition ty abs rep N N TH"
@@ -83,6 +92,16 @@ class OfSlips(unittest.TestCase):
         self.assertEqual(said("e REWRITE_TAC [x;\n  r; s]", 5, "s"), "no theorem s stands before this command")
         self.assertEqual(self.marked("e REWRITE_TAC [x]\nr 2", 1, "18")[1], "a `;;` is missing before `r`")
 
+    def test_no_end_is_missing_where_the_text_fails_before(self):
+        for mark in ("//", "/*", "--", "#", "%"):
+            text = mark + " comment `x`\ne ACCEPT_TAC TRUTH"
+            self.assertEqual(self.marked(text, 1, "0"), (mark, "`%s` begins no command; comments are (* .. *)" % mark))
+            self.assertEqual(self.marked("e REFL_TAC %s a `" % mark, 1, "11")[1], "`%s` begins no symbol of the notation; comments are (* .. *)" % mark)
+            self.assertNotIn("comments", said("g A `x %s`" % mark, 1, "7"))
+        self.assertIn("`foo` begins no command", said("foo\ne REFL_TAC", 1, "0"))
+        self.assertEqual(self.marked("e REFL_TAC)\nqed", 1, "10")[0], ")")
+        self.assertEqual(self.marked("e (REFL_TAC\nqed)", 1, "15"), ("qed", "a `;;` is missing before `qed`"))
+
     def test_a_backquote_is_missing(self):
         self.assertEqual(self.marked("g A `x = x", 1, "10"), ("`", "this quotation is never closed: a backquote is missing"))
         start, _, _ = explain("g A `p\n\ne SPEC_TAC (`x`,`y`)", Refusal(1, "9", ""))
@@ -108,9 +127,50 @@ class OfSlips(unittest.TestCase):
         never = ["ALL_TAC", "MP_TAC", "ASSUME_TAC", "STRIP_ASSUME_TAC", "BETA_TAC"]
         self.assertEqual(set(notation.TACS) - set(wanting), set(never) | {name for name in notation.TACS if "REWRITE" in name})
 
+    def test_what_each_rule_wants(self):
+        source = (ROOT / "crates" / "hol_resolve" / "src" / "forward_rule.rt").read_text(encoding="utf-8")
+        self.assertEqual(sorted(re.findall(r'ForwardRule::\w+ => "(\w+)"', source)), sorted(notation.FORWARD))
+        for name, form in notation.FORWARD.items():
+            word, words = self.marked("e ACCEPT_TAC (%s)" % form, 14, name)
+            self.assertEqual((word, words.startswith(name + " doesn't fit what it is given: it wants ")), (name, True), words)
+        self.assertIn("INST_TYPE the theorem", said("e ACCEPT_TAC (SPEC `x` REFL_CLAUSE)", 14, "SPEC"))
+        self.assertIn("write p:bool", said("e ACCEPT_TAC (ASSUME `x`)", 14, "ASSUME"))
+
+    def test_what_does_not_end(self):
+        for number in (13, 18):
+            self.assertIn("rewriting", said("e REWRITE_TAC [GROW]", number, ""))
+            self.assertIn("ONCE_REWRITE_TAC, or SUBST1_TAC at an instance", said("e REWRITE_TAC [GROW]", number, ""))
+        self.assertIn("a term that a function makes has over 20,000 nodes", said("e REWRITE_TAC [GROW]", 13, ""))
+        self.assertIn("split the statement", said("g A `p`", 13, ""))
+        self.assertIn("split it into several e", said("e REPEAT ALL_TAC", 18, ""))
+        self.assertNotIn("--turns", said("e REPEAT ALL_TAC", 18, ""))
+
     def test_hints_in_terms_stand_at_tokens_of_terms(self):
         self.assertIn("binder as an argument", said("g A `f !x. P`", 1, "7"))
         self.assertNotIn("binder", said("e ACCEPT_TAC !x", 1, "13"))
+
+    def test_numerals_and_operators_in_terms(self):
+        for text, place, told in (("g A `1 + 1 = 2`", "5", "1"), ("g A `x = 12`", "9", "12"), ("new_definition A `a = 0`", "22", "0")):
+            word, words = self.marked(text, 1, place)
+            self.assertEqual((word, "there are no numerals" in words, "SUC _0" in words), (told, True, True), words)
+        for operator in "+-*<>":
+            self.assertIn("as add m n", said("g A `x %s y`" % operator, 1, "7"))
+        self.assertNotIn("numerals", said("e REWRITE_TAC 1", 1, "14"))
+        self.assertNotIn("add m n", said("e REFL_TAC + x", 1, "11"))
+        self.assertIn("closes no comment", said("g A `x *) y`", 1, "7"))
+
+    def test_a_types_quotation(self):
+        for text, place in (("new_constant c `t`", "16"), ("new_constant c `(t)`", "16"), ("e ACCEPT_TAC (INST_TYPE [`:A`,`B`] TH)", "31")):
+            self.assertIn("a type's quotation begins with `:`", said(text, 1, place))
+        self.assertNotIn("type", said("new_definition D `(f x) = x`", 1, "18"))
+        self.assertNotIn("a type's quotation", said("g A `:bool`", 1, "5"))
+
+    def test_a_definitions_arguments(self):
+        for text, place in (("new_definition W `w x x = x`", "22"), ("new_definition W `w (x:A) (x:B) = x`", "27"), ("new_definition W `w x y (x:A) = x`", "25")):
+            self.assertEqual(self.marked(text, 1, place), ("x", "no command goes on with `x` here; the argument x stands twice"))
+        self.assertIn("no argument may have the name of the constant", said("new_definition W `w w = w`", 1, "20"))
+        self.assertNotIn("twice", said("new_definition W `w (x x) = x`", 1, "23"))
+        self.assertNotIn("twice", said("new_definition W `w x = (!(x x. p))`", 1, "29"))
 
     def test_what_a_tactical_hands_over(self):
         words = said("e POP_ASSUM (REWRITE_TAC)", 6, "REWRITE_TAC")

@@ -1,0 +1,42 @@
+"""Slips of people who come from HOL Light, over the program: the places and words that `holls check` tells of them."""
+
+import pathlib
+import subprocess
+import tempfile
+import unittest
+
+from tests.helpers import BUILT, HOLLS, PYTHON, SECONDS
+
+SLIPS = (
+    ("new_definition Q `len (x:A) = len x`;;", "1:1: error: len stands on its own right side: a definition can't be recursive"),
+    ("new_definition Q `len (x:A) = f x`;;", "1:1: error: f is free in what is defined: make it an argument of the constant"),
+    ("new_constant f `:A->A`;; new_axiom GROW `!x:A. x = f x`;;\ng A `(y:A) = z`;;\ne REWRITE_TAC [GROW];;\noops;;",
+     "3:1: error: too large: a term here or a term that a function makes has over 20,000 nodes"),
+    ("new_axiom COMM `!x y. x /\\ y <=> y /\\ x`;;\ng A `a /\\ b`;;\ne REWRITE_TAC [COMM];;\noops;;",
+     "3:1: error: the turn limit was reached: a function doesn't end (rewriting? ONCE_REWRITE_TAC,"),
+    ("g A `T`;;\n// comment\ne ACCEPT_TAC TRUTH;;\nqed;;", "2:1: error: `//` begins no command; comments are (* .. *)"),
+    ("g A `T`;;\ne ACCEPT_TAC TRUTH\nqed;;", "3:1: error: a `;;` is missing before `qed`"),
+    ("g A `T`;;\ne ACCEPT_TAC (SPEC `x` REFL_CLAUSE);;\noops;;", "2:15: error: SPEC doesn't fit what it is given: it wants a theorem !x. p"),
+    ("g A `1 + 1 = 2`;;", "1:6: error: no command goes on with `1` here; there are no numerals"),
+    ("g A `x + y = z`;;", "1:8: error: `+` begins no symbol of the notation; there are no operators on numbers"),
+    ("new_constant c `t`;;", "1:17: error: no command goes on with `t` here; a type's quotation begins with `:`"),
+    ("new_definition W `w x x = x`;;", "1:23: error: no command goes on with `x` here; the argument x stands twice"),
+)
+
+
+@unittest.skipUnless(BUILT.is_file(), "hol_serve isn't built")
+class Slips(unittest.TestCase):
+    def test_each_is_told(self):
+        with tempfile.TemporaryDirectory() as folder:
+            for at, (text, _) in enumerate(SLIPS):
+                (pathlib.Path(folder) / ("S%02d.hol" % at)).write_text(text)
+            words = [*PYTHON, str(HOLLS), "check", "--server", str(BUILT), folder]
+            done = subprocess.run(words, stdout=subprocess.PIPE, timeout=SECONDS)
+        lines = done.stdout.decode().splitlines()
+        for at, (text, told) in enumerate(SLIPS):
+            first = next(line for line in lines if "S%02d.hol:" % at in line)
+            self.assertIn("S%02d.hol:%s" % (at, told), first, text)
+
+
+if __name__ == "__main__":
+    unittest.main()
