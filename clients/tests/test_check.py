@@ -9,7 +9,7 @@ import tempfile
 import threading
 import unittest
 
-from holls import checking
+from holls import checking, graph
 from holls.files import File
 from tests.helpers import BUILT, HOLLS, PYTHON, ROOT, SECONDS, fake, proofs
 
@@ -116,6 +116,22 @@ class Checking(unittest.TestCase):
         status, output, _ = self.check({"B.hol": "import C;;", "C.hol": "import B;;"}, server=())
         self.assertEqual((status, output.count("imports go in a circle here: B imports C imports B") == 2), (1, True))
 
+    def test_an_import_circle_is_told_once_at_each_import_and_nothing_is_taken_from_it(self):
+        circle = "imports go in a circle here: A imports B imports A; take one of them out"
+        for order in ("AB", "BA"):
+            files = {name + ".hol": "import %s;;\n" % other * 3 + proofs(1) + "import D;;\n" for name, other in zip(order, order[::-1])}
+            files["D.hol"] = proofs(1).replace("N0", "M")
+            files["C.hol"] = "import A;;\nimport C;;\nimport NO;; import NO;;\n"
+            status, output, errors = self.check(files)
+            lines = output.splitlines()
+            for name in "AB":
+                self.assertEqual([line for line in lines if line.startswith(name)], (
+                    ["%s.hol:%d:1: error: %s" % (name, line, circle) for line in (1, 2, 3)] + ["%s.hol: 8 commands, 1 theorem, 3 errors" % name]))
+            self.assertEqual([line.split("; ")[0].split(" in ")[0] for line in lines if line.startswith("C")], [
+                "C.hol:2:1: error: imports go", "C.hol:3:1: error: there is no file NO.hol", "C.hol:3:13: error: there is no file NO.hol",
+                "C.hol: 4 commands, 0 theorems, 3 errors"])
+            self.assertEqual((status, errors), (1, ""))
+
     def test_json_and_axioms(self):
         status, output, _ = self.check({"A.hol": proofs(1)}, "--json", "--axioms")
         self.assertEqual([json.loads(line) for line in output.splitlines()], [
@@ -179,6 +195,28 @@ def _read(terminal):
         return b""
 
 
+class Circles(unittest.TestCase):
+    def test_each_import_is_told_by_a_shortest_circle_and_no_other_import_is_refused(self):
+        texts = {"A": "import B;; import X;;", "B": "import C;; import X;;", "C": "import A;; import B;;", "X": "import Y;;", "Y": "qed;;",
+                 "U": "import A;;", "S": "import S;; import Y;;"}
+        for order in (list(texts), list(texts)[::-1]):
+            files = {name: File(name + ".hol") for name in order}
+            for name, file in files.items():
+                file.take(texts[name])
+            found = graph.ordered(graph.with_imports(list(files.values()), lambda _, name: "no " + name))
+            told = {name: [blemish.text.split(": ")[1].split(";")[0] for blemish in file.context] for name, file in files.items() if file.context}
+            self.assertEqual(told, {
+                "A": ["A imports B imports C imports A"], "B": ["B imports C imports B"], "S": ["S imports S"],
+                "C": ["A imports B imports C imports A", "B imports C imports B"]})
+            self.assertEqual({name: file.theory.imports for name, file in files.items()}, {
+                "A": ("X",), "B": ("X",), "C": (), "X": ("Y",), "Y": (), "U": ("A",), "S": ("Y",)})
+            self.assertTrue(all(found.index(files[name]) < found.index(file) for file in found for name in file.theory.imports))
+            self.assertEqual(files["C"].theory.entries[0].text, "import C")
+            files["C"].take("import X;;")
+            graph.with_imports(list(files.values()), lambda _, name: "no " + name)
+            self.assertEqual([files[name].theory.imports for name in "ABC"], [("B", "X"), ("C", "X"), ("X",)])
+
+
 class Scheduling(unittest.TestCase):
     def test_a_server_takes_the_file_that_costs_least_where_it_stands(self):
         files = {name: File(name + ".hol") for name in "ABCD"}
@@ -196,6 +234,15 @@ class Scheduling(unittest.TestCase):
 
 @unittest.skipUnless(BUILT.is_file(), "hol_serve isn't built")
 class Examples(unittest.TestCase):
+    def test_of_a_circle_nothing_is_taken(self):
+        with tempfile.TemporaryDirectory() as folder:
+            for name, other in ("AB", "BA"):
+                pathlib.Path(folder, name + ".hol").write_text("import %s;;\nnew_constant k `:A`;;\n" % other)
+            done = subprocess.run([*PYTHON, str(HOLLS), "check", "--server", str(BUILT), "."], cwd=folder, capture_output=True, timeout=SECONDS)
+        circle = "1:1: error: imports go in a circle here: A imports B imports A; take one of them out"
+        self.assertEqual(sorted(done.stdout.decode().splitlines()), [
+            line for name in "AB" for line in ("./%s.hol: 2 commands, 0 theorems, 1 error" % name, "./%s.hol:%s" % (name, circle))])
+
     def test_the_first_examples_check(self):
         files = [str(ROOT / "examples" / "theories" / (name + ".hol")) for name in ("first", "functions", "tacticals")]
         done = subprocess.run([*PYTHON, str(HOLLS), "check", "--server", str(BUILT), "--axioms", *files], capture_output=True, timeout=SECONDS)

@@ -429,6 +429,26 @@ class Bridging(unittest.TestCase):
         editor.until(lambda: [found[2] for found in editor.said(other)] == ["imports go in a circle here"])
         self.assertEqual(editor.end(), 0)
 
+    def test_of_an_import_circle_nothing_is_taken_whichever_file_was_opened_or_edited_first(self):
+        own, other = "import B;;\n" + proofs(1), (self.folder / "B.hol").as_uri()
+        for uris in ((self.uri, other), (other, self.uri)):
+            editor = self.editor()
+            for uri in uris:
+                editor.open(uri, own if uri == self.uri else proofs(1))
+            name_twice = [(1, 1, "the theorem N0 stands already")]
+            editor.until(lambda: [found[:2] for found in editor.said(self.uri)][:1] == [(1, 1)])
+            self.assertEqual((editor.said(self.uri)[:1], editor.said(other)), (name_twice, []))
+            editor.change(other, 2, "import A;;\n" + proofs(1))
+            circle = [(0, 1, "imports go in a circle here")]
+            editor.until(lambda: editor.said(self.uri) == editor.said(other) == circle)
+            for uri in (self.uri, other):
+                self.assertEqual(editor.goals(uri, 4, 0)["messages"], ["thm N0 |- f x = f x"])
+                self.assertEqual(editor.goals(uri, 0, 0)["error"], (
+                    "refused: imports go in a circle here: A imports B imports A; take one of them out"))
+            editor.change(other, 3, proofs(1))
+            editor.until(lambda: editor.said(self.uri)[:1] == name_twice and editor.said(other) == [])
+            self.assertEqual(editor.end(), 0)
+
     def test_a_project_file_names_the_folders_of_theories(self):
         (self.folder / "library" / "deep").mkdir(parents=True)
         (self.folder / "library" / "deep" / "C.hol").write_text(proofs(1))

@@ -85,6 +85,7 @@ def _copy(file: File) -> File:
     """The same file, which no edit changes."""
     other = File(file.path)
     other.take(file.lines.text)
+    other.refuse(file.refused)
     return other
 
 
