@@ -81,7 +81,7 @@ def ordered(paths: Sequence[str]) -> Dict[str, List[File]]:
     projects = Projects()
     named: Dict[str, List[File]] = {}
     for path in _distinct(paths):
-        named.setdefault(projects.of(path).root, []).append(read(path))
+        named.setdefault(projects.of(path).key, []).append(read(path))
     for root, own in named.items():
         _one_of_each_name(own)
         project = projects.of(own[0].path)

@@ -163,6 +163,37 @@ class Checking(unittest.TestCase):
             "./one/A.hol: 4 commands, 1 theorem, all accepted", "./two/deep/A.hol: 4 commands, 1 theorem, all accepted",
             "./two/B.hol: 5 commands, 1 theorem, all accepted"]))
 
+    def check_of(self, *paths):
+        """Status and lines over paths in the folder."""
+        done = subprocess.run([*PYTHON, str(HOLLS), "check", "--server", fake(self.folder), *paths], cwd=self.folder, capture_output=True, timeout=SECONDS)
+        return done.returncode, done.stdout.decode().splitlines()
+
+    def put(self, files):
+        for name, text in files.items():
+            (self.folder / name).parent.mkdir(parents=True, exist_ok=True)
+            (self.folder / name).write_text(text)
+
+    def test_what_a_file_may_import_depends_on_its_place_and_not_on_what_else_is_checked(self):
+        self.put({"proj/hol-project.json": '{"folders": ["x"]}', "proj/x/a.hol": "import b;;", "proj/x/deep/c.hol": "import a;;", "proj/y/b.hol": proofs(1),
+                  "proj/y/d.hol": "import b;;", "proj/y/e.hol": "import c;;", "proj/x/.old/b.hol": proofs(1), "proj/b.hol": proofs(1)})
+        folder = self.folder.resolve() / "proj"
+        wrong = {"proj/x/a.hol": "b.hol in %s/x and below" % folder, "proj/y/e.hol": "c.hol in %s/y" % folder}
+        for paths in (["proj"], ["proj/x/a.hol", "proj/y/e.hol"], ["proj/y", "proj/x"], ["proj/b.hol", "proj/x/a.hol", "proj/y/b.hol", "proj/y/e.hol"]):
+            status, lines = self.check_of(*paths)
+            told = {line.split(":")[0]: line.split("no file ")[1] for line in lines if ": error: there is no file " in line}
+            self.assertEqual((status, told, len(lines), len(set(lines))), (1, wrong, len(lines), len(lines)), paths)
+            self.assertEqual(sum("all accepted" not in line for line in lines), 4)
+        self.assertEqual(self.check_of("proj/y/d.hol")[0], 0)
+
+    def test_a_folder_with_a_project_file_of_its_own_is_no_part_of_the_project_around_it_unless_it_is_named(self):
+        self.put({"np/hol-project.json": "{}", "np/in/hol-project.json": "{}", "np/in/b.hol": proofs(1), "np/a.hol": "import b;;"})
+        missing = "np/a.hol:1:1: error: there is no file b.hol in %s and below" % (self.folder.resolve() / "np")
+        accepted = "np/in/b.hol: 4 commands, 1 theorem, all accepted"
+        self.assertEqual(self.check_of("np"), (1, [missing, "np/a.hol: 1 command, 0 theorems, 1 error", accepted]))
+        self.assertEqual(self.check_of("np/a.hol"), (1, [missing, "np/a.hol: 1 command, 0 theorems, 1 error"]))
+        self.put({"np/hol-project.json": '{"folders": [".", "in"]}'})
+        self.assertEqual(self.check_of("np/a.hol"), (0, [accepted, "np/a.hol: 1 command, 0 theorems, all accepted"]))
+
     def test_progress_is_shown_on_a_terminal(self):
         (self.folder / "A.hol").write_text("g A `x = x`;; e SLOW_TAC;; e REFL_TAC;; qed;;\n")
         program, (ours, theirs), shown = fake(self.folder), pty.openpty(), []

@@ -462,6 +462,27 @@ class Bridging(unittest.TestCase):
         self.assertIn("hol-project.json can't be read", editor.published[other][0]["message"])
         self.assertEqual(editor.end(), 0)
 
+    def test_a_file_outside_of_its_projects_folders_is_none_of_its_theories(self):
+        for folder in ("x", "y"):
+            (self.folder / folder).mkdir()
+        (self.folder / "hol-project.json").write_text('{"folders": ["x"]}')
+        (self.folder / "y" / "B.hol").write_text(proofs(1))
+        editor, own, other = self.editor(), (self.folder / "x" / "A.hol").as_uri(), (self.folder / "y" / "B.hol").as_uri()
+        editor.open(own, "import B;;")
+        editor.open(other, proofs(1))
+        editor.open(self.uri, "g A `p`;;")
+        editor.until(lambda: [found[:2] for found in editor.said(own)] == [(0, 1)] and editor.unknown.get(other) == [])
+        self.assertIn("there is no file B.hol in %s and below" % (self.folder / "x"), editor.published[own][0]["message"])
+        editor.until(lambda: [found[:2] for found in editor.said(self.uri)] == [(0, 2)])
+        (self.folder / "hol-project.json").write_text('{"folders": ["x", "y"]}')
+        editor.until(lambda: editor.said(own) == [])
+        (self.folder / "y" / "hol-project.json").write_text("{}")
+        (self.folder / "hol-project.json").write_text("{}")
+        editor.until(lambda: [found[:2] for found in editor.said(own)] == [(0, 1)])
+        (self.folder / "y" / "hol-project.json").unlink()
+        editor.until(lambda: editor.said(own) == [])
+        self.assertEqual(editor.end(), 0)
+
     def test_an_edit_does_not_wait_for_a_server_that_hangs(self):
         editor = self.editor("--fault", "hang:70", "--once", str(self.folder / "once"))
         editor.open(self.uri, "g A `p /\\ q`;;\n" + "e ALL_TAC;;\n" * 61)
