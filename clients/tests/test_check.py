@@ -7,6 +7,7 @@ import pty
 import subprocess
 import tempfile
 import threading
+import time
 import unittest
 
 from holls import checking, graph
@@ -91,6 +92,12 @@ class Checking(unittest.TestCase):
                 once = self.folder / fault.replace(":", "_")
                 status, output, _ = self.check({"A.hol": proofs(2)}, server=("--fault", fault, "--once", str(once)))
                 self.assertEqual((status, output), (0, "A.hol: 8 commands, 2 theorems, all accepted\n"))
+
+    def test_a_program_that_hangs_as_it_starts_is_status_2_soon(self):
+        begun = time.monotonic()
+        status, _, errors = self.check({"A.hol": proofs(1)}, "--seconds", "1", server=("--fault", "hang:1"))
+        self.assertEqual((status, errors), (2, "holls: hol_serve gave no answer within 10 seconds, and again when it was started anew\n"))
+        self.assertLess(time.monotonic() - begun, 90)
 
     def test_a_command_that_runs_too_long_is_status_2_and_the_rest_is_checked(self):
         text = "g A `loop = loop`;;\ne HANG_TAC;;\ne REFL_TAC;;\nqed;;\n" + proofs(1) + "g B `p = q`;;\ne REFL_TAC;;\n"
