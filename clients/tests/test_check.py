@@ -155,6 +155,11 @@ class Checking(unittest.TestCase):
         self.assertEqual((status, output.splitlines()), (1, [
             "A.hol:2:1: error: BX rests on the axiom BX", "A.hol: 6 commands, 1 theorem, 1 error"]))
         self.assertEqual(self.check(files, "--no-axioms", "--allow-axiom", "AX", "--allow-axiom", "BX")[0], 0)
+        for words in (["AX"], ["SELECT_AX"], ["NOSUCH"], ["ax", "N0", "ax"]):
+            _, _, errors = self.check(files, "--no-axioms", *("--allow-axiom=" + word for word in words))
+            wrong = [word for word in dict.fromkeys(words) if "AX" not in word]
+            self.assertEqual(errors.splitlines(), [
+                "holls: warning: --allow-axiom %s lets nothing pass: none of these files has an axiom of that name" % word for word in wrong])
         status, output, _ = self.check(files, "--no-axioms", "--json")
         self.assertEqual((status, json.loads(output.splitlines()[1])["text"]), (1, "BX rests on the axiom BX"))
 
