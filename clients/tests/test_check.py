@@ -148,6 +148,21 @@ class Checking(unittest.TestCase):
         self.assertEqual((status, errors), (2, "holls: A.hol:4: on what N0 rests isn't known: hol_serve ended, or had no memory\n"))
 
 
+    def test_the_keys_of_json_are_those_that_the_page_names(self):
+        files = {"A.hol": "new_axiom AX `p`;;\ng B `p = q`;;\ne REFL_TAC;;\n" + proofs(1)}
+        page = (ROOT / "docs" / "EDITORS.md").read_text()
+        _, output, _ = self.check(files, "--json", "--axioms")
+        found = {" ".join("`%s`" % key for key in json.loads(line)) for line in output.splitlines()}
+        self.assertEqual([len(found)] + [page.count("\n| %s |" % keys) for keys in found], [3, 1, 1, 1])
+        first = json.loads(output.splitlines()[0])
+        self.assertEqual([first[key] for key in ("line", "column", "end_line", "end_column", "severity")], [3, 3, 3, 11, "error"])
+
+    def test_65_files_that_hang_together_are_too_many(self):
+        files = {"F%02d.hol" % number: "import F%02d;;" % (number - 1) if number else "new_axiom AX `p`;;" for number in range(65)}
+        status, output, errors = self.check(files)
+        self.assertEqual((status, errors, output.count("all accepted")), (
+            2, "holls: F64.hol hangs together with 65 files by imports, and a server holds 64 theories\n", 64))
+
     def test_no_axioms_is_an_error_where_a_theorem_rests_on_one_that_is_not_allowed(self):
         files = {"A.hol": "new_axiom AX `p`;;\nnew_axiom BX `q`;;\n" + proofs(1)}
         self.assertEqual(self.check(files)[0], 0)
