@@ -13,6 +13,7 @@ from holls import checking, files, graph, server, words
 from holls.checking import Basis, Unit
 from holls.files import File
 from holls.findings import Finding, Severity, findings
+from holls.manual import PRELUDE
 from holls.projects import SUFFIX, Projects
 from holls.protocol import Made
 
@@ -53,10 +54,19 @@ def main(given: argparse.Namespace) -> int:
         if unit in sent:
             _wait(unit, sent)
         wrong += shown.unit(unit)
+    for name in _no_axioms(given.allow_axiom, units):
+        print("holls: warning: --allow-axiom %s lets nothing pass: none of these files has an axiom of that name" % name, file=sys.stderr)
     failures = list(dict.fromkeys(unit.failure for unit in units if unit.failure))
     for failure in failures:
         print("holls: %s" % failure, file=sys.stderr)
     return BROKEN if failures else FAILED if wrong else 0
+
+
+def _no_axioms(allowed: Sequence[str], units: Sequence[Unit]) -> List[str]:
+    """The names that are allowed and that no axiom has, by the files' texts."""
+    known = {name for name in PRELUDE if name.endswith("_AX")}
+    known.update(command.name for unit in units for command in unit.file.commands if command.word == "new_axiom")
+    return [name for name in dict.fromkeys(allowed) if name not in known]
 
 
 def _wait(unit: Unit, units: Sequence[Unit]) -> None:
@@ -81,7 +91,7 @@ def ordered(paths: Sequence[str]) -> Dict[str, List[File]]:
     projects = Projects()
     named: Dict[str, List[File]] = {}
     for path in _distinct(paths):
-        named.setdefault(projects.of(path).root, []).append(read(path))
+        named.setdefault(projects.of(path).key, []).append(read(path))
     for root, own in named.items():
         _one_of_each_name(own)
         project = projects.of(own[0].path)

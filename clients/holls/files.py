@@ -3,7 +3,7 @@
 from __future__ import annotations
 
 import os
-from typing import Any, List, Optional, Tuple
+from typing import Any, List, Optional, Sequence, Tuple
 
 from holls import notation, protocol
 from holls.places import Lines
@@ -22,7 +22,7 @@ class File:
     """A file. Each command has a place in the theory, unless it is too long or one too many.
 
     `blemishes` come from the file alone, `context` from what stands beside it; with `is_shadowed` there is no room for it in the server,
-    or another file is its theory.
+    or another file is its theory. `imports` are the theories that it imports; those of `refused` are part of a circle, and aren't carried out.
     `written` is what the module `names` keeps of it, `hints` what `findings` does.
     """
 
@@ -33,16 +33,31 @@ class File:
         self.blemishes: List[Blemish] = []
         self.context: List[Blemish] = []
         self.is_shadowed = False
+        self.imports: Tuple[str, ...] = ()
+        self.refused: Tuple[str, ...] = ()
         self.written: Optional[Tuple[Cut, List[Any]]] = None
         self.hints: Optional[List[Any]] = None
         self._slots: List[Optional[int]] = []
         self.take("")
 
     def take(self, text: str) -> None:
-        """Takes the file's text. A hidden `oops` ends a failed proof before a command that can't stand in one."""
+        """Takes the file's text."""
         self.lines = Lines(text)
         self.hints = None
         self.cut: Cut = cut(text)
+        self.imports = tuple(dict.fromkeys(command.name for command in self.commands if command.word == "import" and command.name))
+        self._want()
+
+    def refuse(self, imports: Sequence[str]) -> None:
+        """Takes which imports aren't carried out, since they are part of a circle."""
+        if self.refused != tuple(imports):
+            self.refused = tuple(imports)
+            blemishes = self.blemishes
+            self._want()
+            self.blemishes = blemishes  # None comes of an import.
+
+    def _want(self) -> None:
+        """Has the theory want the commands. A hidden `oops` ends a failed proof before a command that can't stand in one."""
         self.blemishes = list(self.cut.blemishes)
         self._check_name()
         fitting = [self._fits(command) for command in self.commands]
@@ -51,7 +66,7 @@ class File:
             texts = self._texts(fitting, False)
         self._check_number(texts)
         self.theory.want(texts[:protocol.COMMANDS])
-        self.theory.imports = tuple(command.name for command in self.commands if command.word == "import" and command.name)
+        self.theory.imports = tuple(name for name in self.imports if name not in self.refused)
 
     @property
     def commands(self) -> List[Command]:
@@ -77,6 +92,13 @@ class File:
         """Whether a hidden `oops` stands before a command, so that no proof is open there."""
         slot = self.slot(number)
         return bool(slot) and self.theory.entries[slot - 1].is_hidden
+
+    def why_not(self, number: int) -> Optional[str]:
+        """Why an import can't be carried out, where what stands beside the file says so: no file of that name, or a circle."""
+        command = self.commands[number]
+        if command.word != "import":
+            return None
+        return next((blemish.text for blemish in self.context if (blemish.start, blemish.end) == (command.start, command.end)), None)
 
     def proof_begin(self, number: int) -> int:
         """The command at which the proof that a command stands in begins: the last one above that can't stand in a proof, or it."""
@@ -117,8 +139,12 @@ class File:
                 may_be_open = command.word == "g"
             may_be_open = may_be_open and command.text != "oops"
             self._slots.append(len(texts) if fits else None)
-            texts += [(command.text, False)] if fits else []
+            texts += [(self._sent(command), False)] if fits else []
         return texts
+
+    def _sent(self, command: Command) -> str:
+        """A command's text, and for an import that isn't to be carried out one that never is: that of the theory itself."""
+        return "import " + self.theory.name if command.word == "import" and command.name in self.refused else command.text
 
     def _check_number(self, texts: List[Tuple[str, bool]]) -> None:
         if len(texts) <= protocol.COMMANDS:

@@ -129,9 +129,8 @@ class _Walk:
         self.findings.append(Finding(first, last, severity, text, number=number, refusal=refusal))
 
     def is_told(self, number: int, refusal: Refusal) -> bool:
-        """Whether an import's refusal is told by what stands beside the file: no file of that name, or a circle."""
-        start = self.file.commands[number].start
-        return refusal.number == protocol.UNKNOWN_THEORY and any(blemish.start == start for blemish in self.file.context)
+        """Whether an import's refusal is told by what stands beside the file."""
+        return refusal.number == protocol.UNKNOWN_THEORY and self.file.why_not(number) is not None
 
     def cause(self, number: int, refusal: Refusal) -> Optional[int]:
         """The refused command from which a refusal follows: the first one of the open proof, or a goal.

@@ -91,7 +91,7 @@ def _imports(name: str, kind: str, file: File, every: Sequence[File]) -> Iterato
     by_name = {other.theory.name: other for other in every}
     for other in every:
         makes = any(one.kind == kind and one.name == name for one in names.written(other))
-        if makes and other is not file and file not in graph.all_imports(other, by_name):
+        if makes and not graph.is_importing(other, file, by_name):
             place = _import_place(file)
             yield Fix("Import %s, which makes %s" % (other.theory.name, name), place, place, "import %s;;\n" % other.theory.name)
 

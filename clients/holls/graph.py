@@ -2,7 +2,8 @@
 
 from __future__ import annotations
 
-from typing import Callable, Dict, List, Sequence, Set, Union
+from collections import deque
+from typing import Callable, Dict, Iterable, List, Sequence, Set, Union
 
 from holls.files import File
 from holls.text import Blemish
@@ -12,12 +13,12 @@ Load = Callable[[File, str], Union[File, str]]
 
 
 def with_imports(files: Sequence[File], load: Load) -> List[File]:
-    """The files and all those that they import, those of the same name once. A missing one is told at its import."""
+    """The files and all those that they import, those of the same name once. A missing one is told at its import, and so is a circle."""
     known: Dict[str, File] = {file.theory.name: file for file in files}
     waiting = list(known.values())
     while waiting:
         file = waiting.pop()
-        for name in file.theory.imports:
+        for name in file.imports:
             found = known.get(name) or load(file, name)
             if isinstance(found, str):
                 tell_import(file, name, found)
@@ -25,43 +26,55 @@ def with_imports(files: Sequence[File], load: Load) -> List[File]:
                 found.context = []
                 known[name] = found
                 waiting.append(found)
+    _refuse_circles(known)
     return list(known.values())
 
 
-def ordered(files: Sequence[File]) -> List[File]:
-    """The files, each after those that it imports; an import that closes a circle is told in the file's context."""
-    by_name = {file.theory.name: file for file in files}
-    order: List[File] = []
-    done: Set[str] = set()
-    for file in files:
-        _visit(file, by_name, order, done)
-    return order
+def _refuse_circles(by_name: Dict[str, File]) -> None:
+    """Tells of each import that is part of a circle. None of these is carried out, so that the files' order changes nothing."""
+    parts = _parts(by_name)
+    for own, file in by_name.items():
+        refused = [name for name in file.imports if name in parts and parts[name] == parts[own]]
+        file.refuse(refused)
+        for name in refused:
+            circle = _circle(own, name, by_name)
+            tell_import(file, name, "imports go in a circle here: %s; take one of them out" % " imports ".join(circle + circle[:1]))
 
 
-def _visit(first: File, by_name: Dict[str, File], order: List[File], done: Set[str]) -> None:
-    """Puts a file behind its imports, by a stack of its own."""
-    stack = [(first, iter(first.theory.imports))]
-    while stack:
-        file, imports = stack[-1]
-        name = next((name for name in imports if name in by_name and name not in done), None)
-        opened = [other for other, _ in stack]
-        if name is None:
-            stack.pop()
-            if file.theory.name not in done:
-                done.add(file.theory.name)
-                order.append(file)
-        elif by_name[name] in opened:
-            _tell_circle(opened[opened.index(by_name[name]):])
-        else:
-            stack.append((by_name[name], iter(by_name[name].theory.imports)))
+def _parts(by_name: Dict[str, File]) -> Dict[str, str]:
+    """By files' names the name of one that stands for all those that the file imports and that import it, by way of others too.
+
+    After Kosaraju and Sharir: against the imports, from the files that stand last.
+    """
+    importers: Dict[str, List[str]] = {}
+    for own, file in by_name.items():
+        for name in file.imports:
+            importers.setdefault(name, []).append(own)
+    parts: Dict[str, str] = {}
+    for file in reversed(_in_order(by_name.values(), by_name, _written)):
+        waiting = [file.theory.name]
+        while waiting:
+            name = waiting.pop()
+            if name not in parts:
+                parts[name] = file.theory.name
+                waiting += importers.get(name, [])
+    return parts
 
 
-def _tell_circle(circle: List[File]) -> None:
-    """Tells of each import of a circle; each file imports the next one, and the last one the first."""
-    names = [file.theory.name for file in circle]
-    words = "imports go in a circle here: %s; take one of them out" % " imports ".join(names + names[:1])
-    for file, name in zip(circle, names[1:] + names[:1]):
-        tell_import(file, name, words)
+def _circle(own: str, name: str, by_name: Dict[str, File]) -> List[str]:
+    """The shortest circle that begins with an import of one file by another, told from its least name on, as at its other imports."""
+    before: Dict[str, str] = {name: own}
+    waiting = deque([name])
+    while own not in before:
+        last = waiting.popleft()
+        new = [other for other in by_name[last].imports if other in by_name and other not in before]
+        before.update((other, last) for other in new)
+        waiting += new
+    circle = [own]
+    while circle[0] != name:
+        circle.insert(0, before[circle[0]])
+    least = circle.index(min(circle))
+    return circle[least:] + circle[:least]
 
 
 def tell_import(file: File, name: str, words: str) -> None:
@@ -71,24 +84,48 @@ def tell_import(file: File, name: str, words: str) -> None:
             file.context.append(Blemish(command.start, command.end, words, True))
 
 
+def ordered(files: Sequence[File]) -> List[File]:
+    """The files, each after those that it imports."""
+    return _in_order(files, {file.theory.name: file for file in files}, _carried_out)
+
+
 def all_imports(file: File, by_name: Dict[str, File]) -> List[File]:
     """The files that a file imports, also by way of others, each after those that it imports, without the file itself."""
-    found = ordered_from(file, by_name)
-    return [other for other in found if other is not file]
+    return [other for other in ordered_from(file, by_name) if other is not file]
 
 
 def ordered_from(file: File, by_name: Dict[str, File]) -> List[File]:
     """A file and those that it imports, each after those that it imports."""
+    return _in_order([file], by_name, _carried_out)
+
+
+def is_importing(file: File, other: File, by_name: Dict[str, File]) -> bool:
+    """Whether a file imports another, also by way of others and where it is refused; or is it."""
+    return other in _in_order([file], by_name, _written)
+
+
+def _written(file: File) -> Sequence[str]:
+    return file.imports
+
+
+def _carried_out(file: File) -> Sequence[str]:
+    return file.theory.imports
+
+
+def _in_order(files: Iterable[File], by_name: Dict[str, File], imports: Callable[[File], Sequence[str]]) -> List[File]:
+    """The files and those that they import, each behind its imports, by a stack of its own."""
     order: List[File] = []
-    seen = {file.theory.name}
-    stack = [(file, iter(file.theory.imports))]
-    while stack:
-        last, imports = stack[-1]
-        name = next((name for name in imports if name in by_name and name not in seen), None)
-        if name is None:
-            order.append(last)
-            stack.pop()
-        else:
-            seen.add(name)
-            stack.append((by_name[name], iter(by_name[name].theory.imports)))
+    seen: Set[str] = set()
+    for first in files:
+        stack = [] if first.theory.name in seen else [(first, iter(imports(first)))]
+        seen.add(first.theory.name)
+        while stack:
+            file, names = stack[-1]
+            name = next((name for name in names if name in by_name and name not in seen), None)
+            if name is None:
+                order.append(file)
+                stack.pop()
+            else:
+                seen.add(name)
+                stack.append((by_name[name], iter(imports(by_name[name]))))
     return order

@@ -26,6 +26,7 @@ ADDRESS = "127.0.0.1"
 """Nobody but this machine is served."""
 
 PORT = 8765
+MOST_PORT = 65_535
 PROGRAMS = 32
 """So many programs run at once at most."""
 
@@ -174,6 +175,8 @@ def add_words(words: argparse.ArgumentParser) -> None:
 
 def main(given: argparse.Namespace) -> int:
     """Serves until it is interrupted. Status 2 where there is nothing to serve."""
+    if not 0 <= given.port <= MOST_PORT:
+        return _complain("--port takes 0 to %d" % MOST_PORT)
     if not (FOLDER / "index.html").is_file():
         return _complain("the folder page/ is missing beside clients/")
     pages: Optional[Pages] = None

@@ -1,8 +1,9 @@
 """Projects: which files are theories of one server, and where an imported theory's file is.
 
 A project is a folder with a project file, `hol-project.json`: `{"folders": ["theories", "library"]}` names the folders, relative to its
-own, whose files and those in whose subfolders are its theories; without `folders` it is the project file's own folder. A file that lies
-below no project file belongs with those in its own folder, without subfolders.
+own, whose files and those in whose subfolders are its theories; without `folders` it is the project file's own folder. A subfolder with a
+project file of its own is left out, unless it is named. A file belongs to the project of the nearest project file at it or above it; where
+there is none, or its folders don't have the file, it belongs with those in its own folder, without subfolders.
 """
 
 from __future__ import annotations
@@ -22,14 +23,16 @@ Stamp = Dict[str, Moment]
 
 
 class Project:
-    """A folder of theories, or those that a project file names."""
+    """A folder of theories, or those that a project file names. `key` is what no other project has."""
 
     def __init__(self, root: str, has_file: bool = False) -> None:
         self.root, self.has_file = root, has_file
+        self.key = os.path.join(root, PROJECT_FILE) if has_file else root
         self.error: Optional[str] = None
         self.folders: List[str] = [root]
         self._paths: Dict[str, List[str]] = {}
         self._stamp: Stamp = {}
+        self._left_out: List[str] = []
         self.refresh()
 
     def refresh(self) -> None:
@@ -40,12 +43,18 @@ class Project:
             path = os.path.join(self.root, PROJECT_FILE)
             own[path] = changed(path)
             self._read(path)
-        self._paths, self._stamp = _scan(self.folders, self.has_file)
+        self._paths, self._stamp, self._left_out = _scan(self.folders, self.has_file)
         self._stamp.update(own)
 
     def is_stale(self) -> bool:
         """Whether the project file, or what is in a folder, has changed since it was looked at."""
         return any(changed(path) != moment for path, moment in self._stamp.items())
+
+    def has_folder(self, folder: str) -> bool:
+        """Whether the files in a folder are of the project. One that isn't there yet is where it will be."""
+        if os.path.isdir(folder):
+            return folder in self._stamp and folder not in self._left_out
+        return any(os.path.join(folder, "").startswith(os.path.join(own, "")) for own in self.folders)
 
     def find(self, name: str) -> Union[str, List[str]]:
         """The path of a theory's file; or all such paths, where there are none or several."""
@@ -90,22 +99,26 @@ def changed(path: str) -> Moment:
         return 0, 0, 0
 
 
-def _scan(folders: List[str], is_deep: bool) -> Tuple[Dict[str, List[str]], Stamp]:
-    """The files of theories by their theories' names, and the folders that were looked into."""
+def _scan(folders: List[str], is_deep: bool) -> Tuple[Dict[str, List[str]], Stamp, List[str]]:
+    """The files of theories by their theories' names, the folders that were looked into, and those of them that are left out."""
     found: Dict[str, List[str]] = {}
     stamp: Stamp = {}
+    left_out: List[str] = []
     number, waiting = 0, folders[::-1]
     while waiting:
         folder = waiting.pop()
         if folder in stamp:
             continue
         stamp[folder] = changed(folder)
+        if folder not in folders and os.path.isfile(os.path.join(folder, PROJECT_FILE)):
+            left_out.append(folder)
+            continue
         files, below = _listed(folder)
         for name in files[:max(0, MOST_FILES - number)]:
             found.setdefault(name[:-len(SUFFIX)], []).append(os.path.join(folder, name))
         number += len(files)
         waiting += [os.path.join(folder, name) for name in reversed(below)] if is_deep else []
-    return found, stamp
+    return found, stamp, left_out
 
 
 def _listed(folder: str) -> Tuple[List[str], List[str]]:
@@ -123,29 +136,35 @@ class Projects:
     """The projects by the folders of their files."""
 
     def __init__(self) -> None:
-        self._by_folder: Dict[str, Project] = {}
-        self._by_root: Dict[str, Project] = {}
+        self._by_folder: Dict[str, Tuple[Optional[str], Project]] = {}
+        self._by_root: Dict[Tuple[str, bool], Project] = {}
 
     def of(self, path: str) -> Project:
         """The project of a file."""
         folder = os.path.dirname(os.path.abspath(path))
         if folder not in self._by_folder:
             root = _root(folder)
-            key = root or folder
-            if key not in self._by_root:
-                self._by_root[key] = Project(key, root is not None)
-            self._by_folder[folder] = self._by_root[key]
-        return self._by_folder[folder]
+            project = None if root is None else self._at(root, True)
+            self._by_folder[folder] = root, project if project and project.has_folder(folder) else self._at(folder, False)
+        return self._by_folder[folder][1]
+
+    def _at(self, root: str, has_file: bool) -> Project:
+        key = root, has_file
+        if key not in self._by_root:
+            self._by_root[key] = Project(root, has_file)
+        return self._by_root[key]
 
     def refresh(self) -> bool:
         """Looks at those anew in which something has changed. Answers whether there was one, or a project file has come or gone."""
-        if any(_root(folder) != (project.root if project.has_file else None) for folder, project in self._by_folder.items()):
+        if any(_root(folder) != root for folder, (root, _) in self._by_folder.items()):
             self._by_folder.clear()
             self._by_root.clear()
             return True
         stale = [project for project in self._by_root.values() if project.is_stale()]
         for project in stale:
             project.refresh()
+        if stale:
+            self._by_folder.clear()
         return bool(stale)
 
 

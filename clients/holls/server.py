@@ -56,9 +56,9 @@ class Server:
         self._lines: "queue.Queue[Optional[bytes]]" = queue.Queue()
         self._complaint = b""
         self._listener = threading.Thread(target=self._hear, daemon=True)
+        self._listener.start()  # The reader joins it, which may be as soon as the reader begins.
         for work in (self._write, self._read):
             threading.Thread(target=work, daemon=True).start()
-        self._listener.start()
 
     def send(self, line: bytes) -> None:
         """Queues a line to be written."""

@@ -25,8 +25,8 @@ SLOW_SECONDS = 5.0
 """A command that runs longer is marked."""
 PATIENCE_SECONDS = 0.5
 """What is under way for so long is looked at: whether it is worth to be waited for."""
-START_SECONDS = 120.0
-"""What runs no command and takes longer has a server that hangs."""
+START_SECONDS = 10.0
+"""So long, at least, a server may take for what runs no command, as where it starts, however little time a command has."""
 ENDS = 6
 """After so many ends of the server since the last edit it isn't started again."""
 WINDOW = 16

@@ -134,7 +134,7 @@ def _tokens(text: str) -> List[str]:
     while at < len(text):
         match = _TOKEN.match(text, at)
         if not match:
-            raise Unreadable("`%s` begins no symbol" % text[at:at + 1])
+            raise Unreadable("`%s` begins no symbol" % text[at:].lstrip()[0])
         found.append(match.group(1))
         at = match.end()
     return found

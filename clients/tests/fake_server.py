@@ -275,12 +275,13 @@ class Documents:
         earlier, found = {}, []
         for name, slots in theories:
             found.append((name, []))
-            earlier[name] = EMPTY
+            state = EMPTY
             for slot in slots:
-                now = slot.again(earlier[name], earlier)
+                now = slot.again(state, earlier)
                 self.ran += now is not slot and now.is_run
-                earlier[name] = now.after
+                state = now.after
                 found[-1][1].append(now)
+            earlier[name] = state
         return found
 
     def insert(self, request):

@@ -7,9 +7,10 @@ import pty
 import subprocess
 import tempfile
 import threading
+import time
 import unittest
 
-from holls import checking
+from holls import checking, graph
 from holls.files import File
 from tests.helpers import BUILT, HOLLS, PYTHON, ROOT, SECONDS, fake, proofs
 
@@ -92,6 +93,12 @@ class Checking(unittest.TestCase):
                 status, output, _ = self.check({"A.hol": proofs(2)}, server=("--fault", fault, "--once", str(once)))
                 self.assertEqual((status, output), (0, "A.hol: 8 commands, 2 theorems, all accepted\n"))
 
+    def test_a_program_that_hangs_as_it_starts_is_status_2_soon(self):
+        begun = time.monotonic()
+        status, _, errors = self.check({"A.hol": proofs(1)}, "--seconds", "1", server=("--fault", "hang:1"))
+        self.assertEqual((status, errors), (2, "holls: hol_serve gave no answer within 10 seconds, and again when it was started anew\n"))
+        self.assertLess(time.monotonic() - begun, 90)
+
     def test_a_command_that_runs_too_long_is_status_2_and_the_rest_is_checked(self):
         text = "g A `loop = loop`;;\ne HANG_TAC;;\ne REFL_TAC;;\nqed;;\n" + proofs(1) + "g B `p = q`;;\ne REFL_TAC;;\n"
         status, output, errors = self.check({"A.hol": text, "B.hol": "import A;;\n" + proofs(1).replace("N0", "M")}, "--seconds", "6")
@@ -116,6 +123,22 @@ class Checking(unittest.TestCase):
         status, output, _ = self.check({"B.hol": "import C;;", "C.hol": "import B;;"}, server=())
         self.assertEqual((status, output.count("imports go in a circle here: B imports C imports B") == 2), (1, True))
 
+    def test_an_import_circle_is_told_once_at_each_import_and_nothing_is_taken_from_it(self):
+        circle = "imports go in a circle here: A imports B imports A; take one of them out"
+        for order in ("AB", "BA"):
+            files = {name + ".hol": "import %s;;\n" % other * 3 + proofs(1) + "import D;;\n" for name, other in zip(order, order[::-1])}
+            files["D.hol"] = proofs(1).replace("N0", "M")
+            files["C.hol"] = "import A;;\nimport C;;\nimport NO;; import NO;;\n"
+            status, output, errors = self.check(files)
+            lines = output.splitlines()
+            for name in "AB":
+                self.assertEqual([line for line in lines if line.startswith(name)], (
+                    ["%s.hol:%d:1: error: %s" % (name, line, circle) for line in (1, 2, 3)] + ["%s.hol: 8 commands, 1 theorem, 3 errors" % name]))
+            self.assertEqual([line.split("; ")[0].split(" in ")[0] for line in lines if line.startswith("C")], [
+                "C.hol:2:1: error: imports go", "C.hol:3:1: error: there is no file NO.hol", "C.hol:3:13: error: there is no file NO.hol",
+                "C.hol: 4 commands, 0 theorems, 3 errors"])
+            self.assertEqual((status, errors), (1, ""))
+
     def test_json_and_axioms(self):
         status, output, _ = self.check({"A.hol": proofs(1)}, "--json", "--axioms")
         self.assertEqual([json.loads(line) for line in output.splitlines()], [
@@ -125,6 +148,21 @@ class Checking(unittest.TestCase):
         self.assertEqual((status, errors), (2, "holls: A.hol:4: on what N0 rests isn't known: hol_serve ended, or had no memory\n"))
 
 
+    def test_the_keys_of_json_are_those_that_the_page_names(self):
+        files = {"A.hol": "new_axiom AX `p`;;\ng B `p = q`;;\ne REFL_TAC;;\n" + proofs(1)}
+        page = (ROOT / "docs" / "EDITORS.md").read_text()
+        _, output, _ = self.check(files, "--json", "--axioms")
+        found = {" ".join("`%s`" % key for key in json.loads(line)) for line in output.splitlines()}
+        self.assertEqual([len(found)] + [page.count("\n| %s |" % keys) for keys in found], [3, 1, 1, 1])
+        first = json.loads(output.splitlines()[0])
+        self.assertEqual([first[key] for key in ("line", "column", "end_line", "end_column", "severity")], [3, 3, 3, 11, "error"])
+
+    def test_65_files_that_hang_together_are_too_many(self):
+        files = {"F%02d.hol" % number: "import F%02d;;" % (number - 1) if number else "new_axiom AX `p`;;" for number in range(65)}
+        status, output, errors = self.check(files)
+        self.assertEqual((status, errors, output.count("all accepted")), (
+            2, "holls: F64.hol hangs together with 65 files by imports, and a server holds 64 theories\n", 64))
+
     def test_no_axioms_is_an_error_where_a_theorem_rests_on_one_that_is_not_allowed(self):
         files = {"A.hol": "new_axiom AX `p`;;\nnew_axiom BX `q`;;\n" + proofs(1)}
         self.assertEqual(self.check(files)[0], 0)
@@ -132,6 +170,11 @@ class Checking(unittest.TestCase):
         self.assertEqual((status, output.splitlines()), (1, [
             "A.hol:2:1: error: BX rests on the axiom BX", "A.hol: 6 commands, 1 theorem, 1 error"]))
         self.assertEqual(self.check(files, "--no-axioms", "--allow-axiom", "AX", "--allow-axiom", "BX")[0], 0)
+        for words in (["AX"], ["SELECT_AX"], ["NOSUCH"], ["ax", "N0", "ax"]):
+            _, _, errors = self.check(files, "--no-axioms", *("--allow-axiom=" + word for word in words))
+            wrong = [word for word in dict.fromkeys(words) if "AX" not in word]
+            self.assertEqual(errors.splitlines(), [
+                "holls: warning: --allow-axiom %s lets nothing pass: none of these files has an axiom of that name" % word for word in wrong])
         status, output, _ = self.check(files, "--no-axioms", "--json")
         self.assertEqual((status, json.loads(output.splitlines()[1])["text"]), (1, "BX rests on the axiom BX"))
 
@@ -146,6 +189,37 @@ class Checking(unittest.TestCase):
         self.assertEqual((done.returncode, done.stdout.decode().splitlines()), (0, [
             "./one/A.hol: 4 commands, 1 theorem, all accepted", "./two/deep/A.hol: 4 commands, 1 theorem, all accepted",
             "./two/B.hol: 5 commands, 1 theorem, all accepted"]))
+
+    def check_of(self, *paths):
+        """Status and lines over paths in the folder."""
+        done = subprocess.run([*PYTHON, str(HOLLS), "check", "--server", fake(self.folder), *paths], cwd=self.folder, capture_output=True, timeout=SECONDS)
+        return done.returncode, done.stdout.decode().splitlines()
+
+    def put(self, files):
+        for name, text in files.items():
+            (self.folder / name).parent.mkdir(parents=True, exist_ok=True)
+            (self.folder / name).write_text(text)
+
+    def test_what_a_file_may_import_depends_on_its_place_and_not_on_what_else_is_checked(self):
+        self.put({"proj/hol-project.json": '{"folders": ["x"]}', "proj/x/a.hol": "import b;;", "proj/x/deep/c.hol": "import a;;", "proj/y/b.hol": proofs(1),
+                  "proj/y/d.hol": "import b;;", "proj/y/e.hol": "import c;;", "proj/x/.old/b.hol": proofs(1), "proj/b.hol": proofs(1)})
+        folder = self.folder.resolve() / "proj"
+        wrong = {"proj/x/a.hol": "b.hol in %s/x and below" % folder, "proj/y/e.hol": "c.hol in %s/y" % folder}
+        for paths in (["proj"], ["proj/x/a.hol", "proj/y/e.hol"], ["proj/y", "proj/x"], ["proj/b.hol", "proj/x/a.hol", "proj/y/b.hol", "proj/y/e.hol"]):
+            status, lines = self.check_of(*paths)
+            told = {line.split(":")[0]: line.split("no file ")[1] for line in lines if ": error: there is no file " in line}
+            self.assertEqual((status, told, len(lines), len(set(lines))), (1, wrong, len(lines), len(lines)), paths)
+            self.assertEqual(sum("all accepted" not in line for line in lines), 4)
+        self.assertEqual(self.check_of("proj/y/d.hol")[0], 0)
+
+    def test_a_folder_with_a_project_file_of_its_own_is_no_part_of_the_project_around_it_unless_it_is_named(self):
+        self.put({"np/hol-project.json": "{}", "np/in/hol-project.json": "{}", "np/in/b.hol": proofs(1), "np/a.hol": "import b;;"})
+        missing = "np/a.hol:1:1: error: there is no file b.hol in %s and below" % (self.folder.resolve() / "np")
+        accepted = "np/in/b.hol: 4 commands, 1 theorem, all accepted"
+        self.assertEqual(self.check_of("np"), (1, [missing, "np/a.hol: 1 command, 0 theorems, 1 error", accepted]))
+        self.assertEqual(self.check_of("np/a.hol"), (1, [missing, "np/a.hol: 1 command, 0 theorems, 1 error"]))
+        self.put({"np/hol-project.json": '{"folders": [".", "in"]}'})
+        self.assertEqual(self.check_of("np/a.hol"), (0, [accepted, "np/a.hol: 1 command, 0 theorems, all accepted"]))
 
     def test_progress_is_shown_on_a_terminal(self):
         (self.folder / "A.hol").write_text("g A `x = x`;; e SLOW_TAC;; e REFL_TAC;; qed;;\n")
@@ -179,6 +253,28 @@ def _read(terminal):
         return b""
 
 
+class Circles(unittest.TestCase):
+    def test_each_import_is_told_by_a_shortest_circle_and_no_other_import_is_refused(self):
+        texts = {"A": "import B;; import X;;", "B": "import C;; import X;;", "C": "import A;; import B;;", "X": "import Y;;", "Y": "qed;;",
+                 "U": "import A;;", "S": "import S;; import Y;;"}
+        for order in (list(texts), list(texts)[::-1]):
+            files = {name: File(name + ".hol") for name in order}
+            for name, file in files.items():
+                file.take(texts[name])
+            found = graph.ordered(graph.with_imports(list(files.values()), lambda _, name: "no " + name))
+            told = {name: [blemish.text.split(": ")[1].split(";")[0] for blemish in file.context] for name, file in files.items() if file.context}
+            self.assertEqual(told, {
+                "A": ["A imports B imports C imports A"], "B": ["B imports C imports B"], "S": ["S imports S"],
+                "C": ["A imports B imports C imports A", "B imports C imports B"]})
+            self.assertEqual({name: file.theory.imports for name, file in files.items()}, {
+                "A": ("X",), "B": ("X",), "C": (), "X": ("Y",), "Y": (), "U": ("A",), "S": ("Y",)})
+            self.assertTrue(all(found.index(files[name]) < found.index(file) for file in found for name in file.theory.imports))
+            self.assertEqual(files["C"].theory.entries[0].text, "import C")
+            files["C"].take("import X;;")
+            graph.with_imports(list(files.values()), lambda _, name: "no " + name)
+            self.assertEqual([files[name].theory.imports for name in "ABC"], [("B", "X"), ("C", "X"), ("X",)])
+
+
 class Scheduling(unittest.TestCase):
     def test_a_server_takes_the_file_that_costs_least_where_it_stands(self):
         files = {name: File(name + ".hol") for name in "ABCD"}
@@ -196,6 +292,15 @@ class Scheduling(unittest.TestCase):
 
 @unittest.skipUnless(BUILT.is_file(), "hol_serve isn't built")
 class Examples(unittest.TestCase):
+    def test_of_a_circle_nothing_is_taken(self):
+        with tempfile.TemporaryDirectory() as folder:
+            for name, other in ("AB", "BA"):
+                pathlib.Path(folder, name + ".hol").write_text("import %s;;\nnew_constant k `:A`;;\n" % other)
+            done = subprocess.run([*PYTHON, str(HOLLS), "check", "--server", str(BUILT), "."], cwd=folder, capture_output=True, timeout=SECONDS)
+        circle = "1:1: error: imports go in a circle here: A imports B imports A; take one of them out"
+        self.assertEqual(sorted(done.stdout.decode().splitlines()), [
+            line for name in "AB" for line in ("./%s.hol: 2 commands, 0 theorems, 1 error" % name, "./%s.hol:%s" % (name, circle))])
+
     def test_the_first_examples_check(self):
         files = [str(ROOT / "examples" / "theories" / (name + ".hol")) for name in ("first", "functions", "tacticals")]
         done = subprocess.run([*PYTHON, str(HOLLS), "check", "--server", str(BUILT), "--axioms", *files], capture_output=True, timeout=SECONDS)

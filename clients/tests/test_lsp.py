@@ -429,6 +429,26 @@ class Bridging(unittest.TestCase):
         editor.until(lambda: [found[2] for found in editor.said(other)] == ["imports go in a circle here"])
         self.assertEqual(editor.end(), 0)
 
+    def test_of_an_import_circle_nothing_is_taken_whichever_file_was_opened_or_edited_first(self):
+        own, other = "import B;;\n" + proofs(1), (self.folder / "B.hol").as_uri()
+        for uris in ((self.uri, other), (other, self.uri)):
+            editor = self.editor()
+            for uri in uris:
+                editor.open(uri, own if uri == self.uri else proofs(1))
+            name_twice = [(1, 1, "the theorem N0 stands already")]
+            editor.until(lambda: [found[:2] for found in editor.said(self.uri)][:1] == [(1, 1)])
+            self.assertEqual((editor.said(self.uri)[:1], editor.said(other)), (name_twice, []))
+            editor.change(other, 2, "import A;;\n" + proofs(1))
+            circle = [(0, 1, "imports go in a circle here")]
+            editor.until(lambda: editor.said(self.uri) == editor.said(other) == circle)
+            for uri in (self.uri, other):
+                self.assertEqual(editor.goals(uri, 4, 0)["messages"], ["thm N0 |- f x = f x"])
+                self.assertEqual(editor.goals(uri, 0, 0)["error"], (
+                    "refused: imports go in a circle here: A imports B imports A; take one of them out"))
+            editor.change(other, 3, proofs(1))
+            editor.until(lambda: editor.said(self.uri)[:1] == name_twice and editor.said(other) == [])
+            self.assertEqual(editor.end(), 0)
+
     def test_a_project_file_names_the_folders_of_theories(self):
         (self.folder / "library" / "deep").mkdir(parents=True)
         (self.folder / "library" / "deep" / "C.hol").write_text(proofs(1))
@@ -440,6 +460,27 @@ class Bridging(unittest.TestCase):
         (self.folder / "hol-project.json").write_text('{"folders": "library"}')
         editor.until(lambda: [found[:2] for found in editor.said(other)]== [(0, 1), (1, 1)])
         self.assertIn("hol-project.json can't be read", editor.published[other][0]["message"])
+        self.assertEqual(editor.end(), 0)
+
+    def test_a_file_outside_of_its_projects_folders_is_none_of_its_theories(self):
+        for folder in ("x", "y"):
+            (self.folder / folder).mkdir()
+        (self.folder / "hol-project.json").write_text('{"folders": ["x"]}')
+        (self.folder / "y" / "B.hol").write_text(proofs(1))
+        editor, own, other = self.editor(), (self.folder / "x" / "A.hol").as_uri(), (self.folder / "y" / "B.hol").as_uri()
+        editor.open(own, "import B;;")
+        editor.open(other, proofs(1))
+        editor.open(self.uri, "g A `p`;;")
+        editor.until(lambda: [found[:2] for found in editor.said(own)] == [(0, 1)] and editor.unknown.get(other) == [])
+        self.assertIn("there is no file B.hol in %s and below" % (self.folder / "x"), editor.published[own][0]["message"])
+        editor.until(lambda: [found[:2] for found in editor.said(self.uri)] == [(0, 2)])
+        (self.folder / "hol-project.json").write_text('{"folders": ["x", "y"]}')
+        editor.until(lambda: editor.said(own) == [])
+        (self.folder / "y" / "hol-project.json").write_text("{}")
+        (self.folder / "hol-project.json").write_text("{}")
+        editor.until(lambda: [found[:2] for found in editor.said(own)] == [(0, 1)])
+        (self.folder / "y" / "hol-project.json").unlink()
+        editor.until(lambda: editor.said(own) == [])
         self.assertEqual(editor.end(), 0)
 
     def test_an_edit_does_not_wait_for_a_server_that_hangs(self):

@@ -14,7 +14,7 @@ import unittest
 from holls import protocol, text, words
 from holls.websocket import WebSocket, new_key
 from tests import browser
-from tests.helpers import BUILT, CLIENTS, PYTHON, ROOT, fake, proofs
+from tests.helpers import BUILT, CLIENTS, HOLLS, PYTHON, ROOT, SECONDS, fake, proofs
 
 FOLDER = ROOT / "page"
 EXAMPLES = ROOT / "examples"
@@ -42,6 +42,13 @@ class Served(unittest.TestCase):
         self.addCleanup(connection.close)
         connection.request("GET", path, headers=headers)
         return connection.getresponse()
+
+
+class CommandLine(unittest.TestCase):
+    def test_a_port_that_there_is_not(self):
+        for port in ("65536", "99999", "-1"):
+            done = subprocess.run([*PYTHON, str(HOLLS), "page", "--no-browser", "--port", port], capture_output=True, text=True, timeout=SECONDS)
+            self.assertEqual((done.returncode, done.stdout, done.stderr), (2, "", "holls: --port takes 0 to 65535\n"))
 
 
 class Server(Served):

@@ -158,11 +158,11 @@ class Propositional(unittest.TestCase):
 class CommandLine(unittest.TestCase):
     """`holls prove` over a small server made for tests."""
 
-    def prove(self, text, place, *words):
+    def prove(self, text, place, *words, server=None):
         with tempfile.TemporaryDirectory() as folder:
             path = pathlib.Path(folder) / "A.hol"
             path.write_text(text)
-            given = [*PYTHON, str(HOLLS), "prove", "%s:%s" % (path, place), *words, "--server", fake(folder)]
+            given = [*PYTHON, str(HOLLS), "prove", "%s:%s" % (path, place), *words, "--server", server or fake(folder)]
             done = subprocess.run(given, capture_output=True, timeout=SECONDS, text=True)
         return done.returncode, done.stdout + done.stderr
 
@@ -170,9 +170,23 @@ class CommandLine(unittest.TestCase):
         text = "g A `x = x /\\ y = y`;;\n  e CONJ_TAC;;\n\n\ng B `p`;;\n"
         self.assertEqual(self.prove(text, 3), (0, "e REFL_TAC;;\n"))
         self.assertEqual(self.prove(text, 2, "--json"), (0, '{"steps": ["e REFL_TAC"]}\n'))
-        self.assertEqual(self.prove(text, 5, "--seconds", "1"), (1, "none found within 1 seconds\n"))
-        self.assertEqual(self.prove(text, 5, "--seconds", "1", "--json"), (1, '{"steps": null}\n'))
+        self.assertEqual(self.prove(text, 5, "--seconds", "1"), (1, "none found: the goal is false for p = F\n"))
+        self.assertEqual(self.prove(text, 5, "--seconds", "1", "--json"), (1, '{"steps": null, "why": "none found: the goal is false for p = F"}\n'))
         self.assertEqual(self.prove(text, 2, "with", "TRUTH"), (0, "e REFL_TAC;;\n"))
+
+    def test_why_none_is_found(self):
+        for goal, seconds, why in (
+                ("p ==> q", "30", ": the goal is false for p = T, q = F"), ("F", "30", ": the goal is false"),
+                ("(P:A->bool) x ==> P y", "30", ": all that this search tries was tried"), ("!x. (P:A->bool) x", "30", ": all that this search tries was tried"),
+                ("(!x:A. P (f x) \\/ P x) ==> ?x. P (f (f x))", "0.01", " within 0.01 seconds")):
+            self.assertEqual(self.prove("g A `%s`;;\n" % goal, 1, "--seconds", seconds), (1, "none found%s\n" % why))
+
+    def test_variables_whose_types_are_left_open(self):
+        for text, wanted in (
+                ("!x:A. ?y. R x y", ["y"]), ("!x y. R x y (z:A)", ["x", "y"]), ("!f. ?g. (f:A->B) = g", []), ("!f. (P:(A->B)->bool) (\\x. f x)", []),
+                ("?f. P (f (x:A))", ["f"]), ("!y. (y = z) ==> ?x. x = z", ["y"])):
+            found = retyping.left_open([reading.term(text, reading.Signature(), ty=typed.BOOL)])
+            self.assertEqual(found, wanted, text)
 
     def test_why_nothing_is_searched(self):
         for text, place, words in (
@@ -196,6 +210,13 @@ class CommandLine(unittest.TestCase):
         self.assertEqual(self.prove(text % "big = big", 4, "--seconds", "20"), (0, "e CLOSE;;\n"))
         self.assertEqual(self.prove(text % "loop = loop", 4, "--seconds", "20"), (0, "e CLOSE;;\n"))
         self.assertEqual(self.prove(text % "big loop = big loop", 4, "--seconds", "20"), (0, "e REFL_TAC;;\n"))
+
+    @unittest.skipUnless(BUILT.is_file(), "hol_serve isn't built")
+    def test_a_proof_that_would_have_to_name_an_open_type(self):
+        steps = "e REPEAT STRIP_TAC THEN EXISTS_TAC `x:A` THEN ASM_REWRITE_TAC [];;\n"
+        for binder, said in (("y", (1, "none found: the type of y is left open: give it one\n")), ("y:B", (0, steps))):
+            text = "g A `(?x:A. !%s. R x y) ==> (!y. ?x. R x y)`;;" % binder
+            self.assertEqual(self.prove(text, 1, "--seconds", "30", server=str(BUILT)), said)
 
 
 def proved(asker, known, text, seconds):

@@ -9,6 +9,7 @@ import unittest
 
 from holls import search, terms
 from holls.names import CONSTANT, PRELUDE, THEOREM, Known
+from holls.prover import reading
 from tests.helpers import HOLLS, PYTHON, SECONDS, fake
 
 NAMED = {
@@ -48,6 +49,13 @@ class Queries(unittest.TestCase):
         for bad in ("_ /\\", "`_` `_`", "(_", "!. _", "_ ; _ = _"):
             with self.assertRaises(search.BadQuery):
                 found(bad)
+
+    def test_what_begins_no_symbol_is_named(self):
+        for read in (terms.read, lambda text: reading.term(text, reading.Signature())):
+            for text in ("x + y", "x +", "+", "x\n\t+y"):
+                with self.assertRaises((terms.Unreadable, reading.Unreadable)) as caught:
+                    read(text)
+                self.assertEqual(str(caught.exception), "`+` begins no symbol")
 
     def test_what_is_shown_is_read_as_the_term_that_it_is(self):
         self.assertEqual(terms.read("p <=> q <=> r"), terms.read("p <=> (q <=> r)"))

@@ -264,7 +264,7 @@ class Bridge:
             self.servers.pop(root).stop()
         for root, files in groups.items():
             server = self.servers.setdefault(root, ProjectServer(self, root))
-            is_here = document is not None and document.project.root == root
+            is_here = document is not None and document.project.key == root
             is_changed = server.take(files, document.file if is_here else None)
             if is_here:
                 server.sweep.prefer(document.view())
@@ -276,7 +276,7 @@ class Bridge:
 
     def server_of(self, document: Document) -> Optional[ProjectServer]:
         """The server of a document's project, if the document is a theory there."""
-        return self.servers.get(document.project.root)
+        return self.servers.get(document.project.key)
 
     def _probe(self) -> None:
         """Looks for the program and asks what it serves, in a thread of its own."""

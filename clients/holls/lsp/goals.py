@@ -5,7 +5,7 @@ from __future__ import annotations
 from dataclasses import dataclass
 from typing import Any, Dict, List, Optional, Union
 
-from holls import words
+from holls import protocol, words
 from holls.files import File
 from holls.protocol import Goal, Goals, Lost, Made, Refusal
 from holls.theory import Job
@@ -54,7 +54,8 @@ def state(file: File, number: Optional[int]) -> Union[State, Job]:
 def _error(file: File, number: int, report: Union[Refusal, Lost, None]) -> List[str]:
     """Why a command has changed nothing."""
     if isinstance(report, Refusal):
-        return ["refused: " + words.explain(file.commands[number].text, report)[2]]
+        told = file.why_not(number) if report.number == protocol.UNKNOWN_THEORY else None
+        return ["refused: " + (told or words.explain(file.commands[number].text, report)[2])]
     if isinstance(report, Lost):
         return ["nothing is known of this command: " + report.reason]
     return ["this command wasn't sent"]

@@ -97,7 +97,7 @@ class Navigation:
 
     def _every(self, servers: Sequence[Sequence[File]]) -> List[File]:
         """The files of all projects."""
-        projects = {document.project.root: document.project for document in self.workspace.documents.values()}
+        projects = {document.project.key: document.project for document in self.workspace.documents.values()}
         sent = [file for files in servers for file in files]
         return list({file.path: file for project in projects.values() for file in self.workspace.every_file(project, sent)}.values())
 

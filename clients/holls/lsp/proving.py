@@ -85,6 +85,7 @@ def _copy(file: File) -> File:
     """The same file, which no edit changes."""
     other = File(file.path)
     other.take(file.lines.text)
+    other.refuse(file.refused)
     return other
 
 
@@ -93,7 +94,7 @@ def edit(search: Search, document: Optional["Document"]) -> Params:
     if search.failure:
         raise NotFound(search.failure)
     if search.answer is None or search.answer.steps is None:
-        raise NotFound("no proof was found within %g seconds" % command.SECONDS)
+        raise NotFound("no proof was found" + (search.answer.why if search.answer else ""))
     place, text = _insertion(search.file, search.answer)
     if document is None or document.file.lines.text[:place] != search.file.lines.text[:place]:
         raise NotFound("the text above has changed; the proof was:\n" + text.strip())

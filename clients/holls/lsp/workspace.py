@@ -112,11 +112,13 @@ class Workspace:
     def groups(self) -> Dict[str, List[File]]:
         """By projects, the files that are sent, each after those that it imports. What an import changed is forgotten below it."""
         admitted: Dict[str, List[File]] = {}
+        projects: Dict[str, Project] = {}
         used: List[str] = []
         for document in self._admitted():
-            admitted.setdefault(document.project.root, []).append(document.file)
-        for root, own in admitted.items():
-            admitted[root] = self._sent(own, used)
+            projects[document.project.key] = document.project
+            admitted.setdefault(document.project.key, []).append(document.file)
+        for key, own in admitted.items():
+            admitted[key] = self._sent(projects[key], own, used)
         self._loaded = {path: loaded for path, loaded in self._loaded.items() if path in used}
         return admitted
 
@@ -148,10 +150,10 @@ class Workspace:
                 return None
         return self._looked_at[path][1]
 
-    def _sent(self, own: List[File], used: List[str]) -> List[File]:
+    def _sent(self, project: Project, own: List[File], used: List[str]) -> List[File]:
         """The files of a project that are sent; `used` takes the paths of those that were read."""
-        def load(file: File, name: str) -> Union[File, str]:
-            return self._load(self.projects.of(file.path), name, used)
+        def load(_: File, name: str) -> Union[File, str]:
+            return self._load(project, name, used)
 
         found = graph.ordered([file for file in graph.with_imports(own, load) if file.is_sent])
         for file in found[protocol.THEORIES:]:
@@ -170,7 +172,7 @@ class Workspace:
         """The documents that can be theories; the others are told why they can't."""
         owners: Dict[Tuple[str, str], File] = {}
         for document in self.documents.values():
-            file, root = document.file, document.project.root
+            file, root = document.file, document.project.key
             owner = owners.setdefault((root, file.theory.name), file)
             is_over = owner is file and sum(other == root for other, _ in owners) > protocol.THEORIES
             file.context, file.is_shadowed = [], owner is not file or is_over

@@ -29,10 +29,11 @@ class NoGoal(Exception):
 
 
 class Answer(NamedTuple):
-    """The steps that close a goal, None where none were found; and the command behind which they belong."""
+    """The steps that close a goal, None where none were found; the command behind which they belong; words on why there are none."""
 
     steps: Optional[List[str]]
     number: int
+    why: str = ""
 
 
 def add_words(parser: argparse.ArgumentParser) -> None:
@@ -57,9 +58,9 @@ def main(given: argparse.Namespace) -> int:
         print("holls: %s" % error, file=sys.stderr)
         return BROKEN
     if given.json:
-        print(json.dumps({"steps": answer.steps}))
+        print(json.dumps({"steps": answer.steps} if answer.steps else {"steps": None, "why": "none found" + answer.why}))
     elif answer.steps is None:
-        print("none found within %g seconds" % given.seconds)
+        print("none found" + answer.why)
     else:
         print("\n".join(step + ";;" for step in answer.steps))
     return NONE if answer.steps is None else 0
@@ -95,8 +96,9 @@ def search(program: Sequence[str], imports: Sequence[File], file: File, number: 
         goals, accepted = _open_goals(asker, file, number)
         standing = _scope(asker, imports, file, number)
         written = names_of.quoted(file.commands[file.proof_begin(accepted)])
-        found = Finder(asker, standing, goals, written, time.monotonic() + seconds).find(names)
-        return Answer(found, accepted)
+        finder = Finder(asker, standing, goals, written, time.monotonic() + seconds)
+        found = finder.find(names)
+        return Answer(found, accepted, "" if found else finder.why_none(seconds))
     finally:
         asker.stop()
 

@@ -48,7 +48,11 @@ class _Given(NamedTuple):
 
 
 class Finder:
-    """Finds steps for the first goal of a proof in a server, by what stands there. `written` is the text of the statement that is proved."""
+    """Finds steps for the first goal of a proof in a server, by what stands there. `written` is the text of the statement that is proved.
+
+    What it comes to nothing by: `counterexample`, what variables may be so that the goal is false; `refused`, how many proofs were found
+    whose steps can't be written or are refused; `is_cut`, whether a part of the search had no more time.
+    """
 
     def __init__(self, asker: Asker, standing: Scope, goals: Goals, written: str, until: float) -> None:
         self.asker, self.scope, self.until = asker, standing, until
@@ -57,6 +61,9 @@ class Finder:
         self.middle = standing.named(scripts.MIDDLE)
         self.functions = named.Functions(standing.functions)
         self.refused = 0
+        self.is_cut = False
+        self.counterexample: Optional[Dict[str, bool]] = None
+        self.open: List[str] = []
         self.is_growing = False
         self.statement: Optional[Term] = None
         try:
@@ -71,6 +78,19 @@ class Finder:
         except RecursionError:
             return None
 
+    def why_none(self, seconds: float) -> str:
+        """Why none was found in so many seconds: words that go on after "none found"."""
+        if self.counterexample is not None:
+            values = ", ".join("%s = %s" % (name, "T" if value else "F") for name, value in self.counterexample.items())
+            return ": the goal is false" + (" for " + values if values else "")
+        if self.refused and self.open:
+            is_one = len(self.open) == 1
+            return ": the type%s of %s %s left open: give %s" % (
+                "" if is_one else "s", " and ".join(self.open), "is" if is_one else "are", "it one" if is_one else "them some")
+        if time.monotonic() >= self.until:
+            return " within %g seconds" % seconds
+        return ": each way to search had its part of the %g seconds" % seconds if self.is_cut else ": all that this search tries was tried"
+
     def _find(self, theorems: Optional[Sequence[str]]) -> Optional[List[str]]:
         for name in theorems or ():
             if name not in self.scope.theorems:
@@ -79,6 +99,7 @@ class Finder:
             items = self._items(self.goal)
         except (Unreadable, RecursionError):
             return self._at_once(theorems or ())
+        self.open = retyping.left_open([item.term for item in items])
         self.is_growing = any(trying.grows(item.term) for item in items)
         at_once = self._at_once(())
         return self._by_named(items, list(theorems), at_once) if theorems else at_once or self._by_any(items)
@@ -87,7 +108,9 @@ class Finder:
         """A step that needs no search: by rewriting, or by a named function on goals where that is shorter."""
         found = self._quick(theorems)
         below = sum(map(len, found)) - len("e ") if found else None
-        use = self.functions.closing(self.asker, self.goals, named.forms(self.is_growing), below, self._part(_CLOSING))
+        until = self._part(_CLOSING)
+        use = self.functions.closing(self.asker, self.goals, named.forms(self.is_growing), below, until)
+        self.is_cut = self.is_cut or time.monotonic() > until
         return self._fewer(["e " + use]) if use else found
 
     def _by_named(self, items: List[Item], names: List[str], at_once: Optional[List[str]]) -> Optional[List[str]]:
@@ -135,8 +158,9 @@ class Finder:
     def _quick(self, theorems: Sequence[str]) -> Optional[List[str]]:
         """A short step that needs no search, by rewriting with theorems that don't go on for ever."""
         fine = [name for name in theorems if not trying.grows(self.scope.theorems[name])]
-        closers = trying.closers(fine, self.is_growing)
-        found = trying.Trial(self.asker, closers, self._part(0.5)).close(len(self.goals.goals))
+        closers, until = trying.closers(fine, self.is_growing), self._part(0.5)
+        found = trying.Trial(self.asker, closers, until).close(len(self.goals.goals))
+        self.is_cut = self.is_cut or time.monotonic() > until
         return None if found is None else self._checked(self._used(Step(found))) or self._fewer(["e " + found])
 
     def _table(self, items: Sequence[Item]) -> object:
@@ -145,6 +169,7 @@ class Finder:
         if len(atoms) > tables.MOST_ATOMS:
             return None
         if not tables.is_valid(items, atoms):
+            self.counterexample = tables.counterexample(items, atoms)
             return False if tables.are_independent(atoms) else None
         scribe = Scribe(self.quoter, self.middle)
         try:
@@ -158,7 +183,9 @@ class Finder:
         items, first = _prepared(items, Scribe(self.quoter, None).assume)
         given = [one for name in names for one in self._given(items, name)]
         every = [Item(True, one.term, False) for one in given] + items
-        proof = finding.Search(frozenset(self.scope.signature.constants), until).prove(every)
+        search = finding.Search(frozenset(self.scope.signature.constants), until)
+        proof = search.prove(every)
+        self.is_cut = self.is_cut or search.is_cut
         if proof is None:
             return None
         scribe = Scribe(self.quoter, self.middle)
@@ -172,8 +199,10 @@ class Finder:
                 if one.theorem is None and (True, one.term) in proof.used:
                     step = Step("SUBGOAL_THEN %s ASSUME_TAC" % self.quoter.quote(one.term), (Step(one.steps), step))
         except Unwritable:
+            self.refused += 1
             return None
         step = Step(first, (step,)) if first else step
+        self.refused += _has(step, scripts.UNWRITTEN)
         return None if _has(step, scripts.UNWRITTEN) else self._run(step, names)
 
     def _given(self, items: Sequence[Item], name: str) -> Iterator[_Given]:

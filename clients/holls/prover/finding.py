@@ -31,11 +31,12 @@ class Item(NamedTuple):
 
 
 class Search:
-    """A search of a proof, until a time. `taken` are the names of constants."""
+    """A search of a proof, until a time. `taken` are the names of constants; `is_cut` says that a part of it had no more time."""
 
     def __init__(self, taken: FrozenSet[str], until: float) -> None:
         sys.setrecursionlimit(max(sys.getrecursionlimit(), _DEEP))
         self.taken, self.until = taken, until
+        self.is_cut = False
 
     def prove(self, items: Sequence[Item]) -> Optional[Proof]:
         """A proof of a sequent, where one is found in time."""
@@ -45,6 +46,7 @@ class Search:
         for attempt, share in self._attempts(list(items)):
             now = time.monotonic()
             if now > self.until:
+                self.is_cut = True
                 return None
             try:
                 found = attempt(now + share * (self.until - now))
@@ -70,8 +72,11 @@ class Search:
         until = min(self.until, time.monotonic() + seconds)
         try:
             return Ground(instances, kept, self.taken, until).prove(_formulas(items), _names(items))
-        except (ground.OutOfTime, RecursionError):
-            return None
+        except ground.OutOfTime:
+            self.is_cut = True
+        except RecursionError:
+            pass
+        return None
 
     def _by_matching(self, items: Sequence[Item], until: float, most: int) -> Optional[Proof]:
         """A proof at terms that stand already, where there are equations, in so many rounds at most."""
@@ -83,6 +88,7 @@ class Search:
         while proof is None and rounds < most and time.monotonic() < until and search.grow():
             rounds += 1
             proof = self._ground(items, _instances(items, search.found), builder.witnesses, min(1.0, until - time.monotonic()))
+        self.is_cut = self.is_cut or time.monotonic() >= until
         return proof
 
     @staticmethod
@@ -100,6 +106,7 @@ class Search:
         try:
             found = search.search(search.starts())
         except connection.OutOfTime:
+            self.is_cut = True
             return None
         return self._ground(items, _instances(items, found), builder.witnesses, _GROUND_SECONDS) if found else None
 

@@ -6,7 +6,7 @@ may have said more. The terms of a proof's goals are mostly parts of its stateme
 
 from __future__ import annotations
 
-from typing import Dict, Iterator, Tuple
+from typing import Dict, Iterable, Iterator, List, Tuple
 
 from holls.prover import typed
 from holls.prover.typed import Term, Type
@@ -28,6 +28,18 @@ def resolved(term: Term, statement: Term) -> Term:
             if not _is_open(found):
                 return found
     return term
+
+
+def left_open(terms: Iterable[Term]) -> List[str]:
+    """Variables whose types would say all types that terms leave open: for each such type one of just this type, where there is one."""
+    bound = [(str(part[1]), part[2]) for term in terms for part in typed.subterms(term) if part[0] in "lv"]
+    found: Dict[str, str] = {}
+    for is_just in (True, False):
+        for name, ty in bound:
+            for other in sorted(typed.type_variables(ty)):
+                if other.startswith("?") and (ty == other or not is_just):
+                    found.setdefault(other, name)
+    return sorted(set(found.values()))
 
 
 def _is_open(term: Term) -> bool:

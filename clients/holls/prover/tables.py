@@ -41,7 +41,21 @@ def are_independent(own: Sequence[Term]) -> bool:
 
 
 def is_valid(items: Sequence[Item], own: Sequence[Term]) -> bool:
-    """Whether a sequent holds whatever its atoms are: each formula has a number with a bit for each row of the table."""
+    """Whether a sequent holds whatever its atoms are."""
+    return _failing(items, own) == 0
+
+
+def counterexample(items: Sequence[Item], own: Sequence[Term]) -> Optional[Dict[str, bool]]:
+    """What the variables that are a sequent's atoms may be so that it is false; None where there is no such row, or atoms are other terms."""
+    failing = _failing(items, own)
+    if not failing or any(atom[0] != "v" for atom in own):
+        return None
+    row = (failing & -failing).bit_length() - 1
+    return {atom[1]: bool(row >> number & 1) for number, atom in enumerate(own)}
+
+
+def _failing(items: Sequence[Item], own: Sequence[Term]) -> int:
+    """The rows in which a sequent doesn't hold: each formula has a number with a bit for each row of the table."""
     rows = 1 << len(own)
     full = (1 << rows) - 1
     values = {TRUTH: full, FALSITY: 0}
@@ -53,7 +67,7 @@ def is_valid(items: Sequence[Item], own: Sequence[Term]) -> bool:
     for item in items:
         value = _value(item.term, values, full)
         holds |= full ^ value if item.is_left else value
-    return holds == full
+    return full ^ holds
 
 
 def _column(rows: int, width: int) -> int:

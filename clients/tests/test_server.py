@@ -1,0 +1,53 @@
+"""The program as a process: what comes of one that ends at once."""
+
+import pathlib
+import queue
+import subprocess
+import tempfile
+import threading
+import time
+import unittest
+from unittest import mock
+
+from holls import server
+from tests.helpers import HOLLS, PYTHON, SECONDS
+
+ENDS = "#!/bin/sh\necho 'hol-serve: no memory' >&2\nexit 1\n"
+
+
+class Late(threading.Thread):
+    """A thread that begins when the program has ended already."""
+
+    def start(self):
+        time.sleep(0.3)
+        super().start()
+
+
+class Ending(unittest.TestCase):
+    def setUp(self):
+        folder = tempfile.TemporaryDirectory()
+        self.addCleanup(folder.cleanup)
+        self.folder = pathlib.Path(folder.name)
+        self.program = self.folder / "ends"
+        self.program.write_text(ENDS)
+        self.program.chmod(0o755)
+
+    def test_the_end_of_a_program_that_ends_at_once_is_told_in_whatever_order_its_threads_begin(self):
+        events = queue.Queue()
+        with mock.patch("threading.Thread", Late):
+            started = server.Server([str(self.program)], events)
+        self.assertEqual(events.get(timeout=60), server.Ended(started, "ended with status 1 (hol-serve: no memory)"))
+
+    def test_a_checker_whose_program_ends_at_once_says_so_soon(self):
+        (self.folder / "A.hol").write_text("g A `x = x`;;\n")
+        begun = time.monotonic()
+        for _ in range(5):
+            done = subprocess.run(
+                [*PYTHON, str(HOLLS), "check", "--server", str(self.program), "A.hol"], cwd=self.folder, capture_output=True, timeout=SECONDS)
+            self.assertEqual((done.returncode, done.stderr.decode()), (2, (
+                "holls: hol_serve ended with status 1 (hol-serve: no memory), and again when it was started anew\n")))
+        self.assertLess(time.monotonic() - begun, 100)
+
+
+if __name__ == "__main__":
+    unittest.main()
