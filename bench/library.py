@@ -25,13 +25,13 @@ import sys
 import tempfile
 
 from bench import is_done, is_run, measure, put, replace, request, row
+from hol_light import ROOT as HOL_LIGHT
 
 ROOT = pathlib.Path(__file__).resolve().parents[1]
 sys.path.insert(0, str(ROOT / "clients"))
 from holls.terms import Unreadable, read  # noqa: E402 (clients/holls)
 from holls.text import cut  # noqa: E402 (clients/holls)
 
-HOL_LIGHT = "/usr/share/hol-light"
 WANTED = 200
 STAGES = ("pair.ml", "wf.ml", "lists.ml", "sets.ml", "define.ml", "Library/rstc.ml")
 """Behind these files of HOL Light our names are asked for; the last one isn't among those that hol.ml loads."""
