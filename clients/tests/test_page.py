@@ -1,9 +1,10 @@
-"""The page: its server without a browser, and all of it in headless Chromium where that is installed."""
+"""The page: its server without a browser, its modules in Node, and all of it in headless Chromium, where these are installed."""
 
 import http.client
 import json
 import pathlib
 import random
+import re
 import shutil
 import subprocess
 import sys
@@ -16,6 +17,7 @@ from holls.websocket import WebSocket, new_key
 from tests import browser
 from tests.helpers import BUILT, CLIENTS, HOLLS, PYTHON, ROOT, SECONDS, fake, proofs
 
+NODE = shutil.which("node")
 FOLDER = ROOT / "page"
 EXAMPLES = ROOT / "examples"
 THEORIES = EXAMPLES / "theories"
@@ -392,8 +394,8 @@ class Editing(InBrowser):
                          ["tab-theorems", False, True])
 
 
-class Words(InBrowser):
-    """What the page says is what the editors say."""
+class Alike:
+    """What the page says is what the editors say; `value` answers what a JavaScript expression over the page's modules comes to."""
 
     TEXTS = [
         "", "g", "g A", "g `x`", "g A `x = `;;", "g A `x", "e FOO_TAC", "e REFL_TC", "e DISCH_THEN REWRITE_TAC", "e DISCH_THEN GEN_TAC",
@@ -409,11 +411,10 @@ class Words(InBrowser):
     PIECES = ["(*", "*)", ";;", "∀", "∃!", "∃", "¬", "→", "`", " ", "\n", "a", "=", "\\", "😀", "\ufeff", "g A `p`", "/", "\\/"]
 
     def test_commands_are_cut_alike(self):
-        shown = self.open()
         chosen = random.Random(1)
         texts = [file.read_text(encoding="utf-8") for file in sorted(THEORIES.glob("*.hol"))]
         texts += ["".join(chosen.choices(self.PIECES, k=chosen.randrange(14))) for _ in range(600)]
-        found = shown.value("""import('/text.js').then(({ cut }) => %s.map((text) => { const { commands, blemishes, comments } = cut(text);
+        found = self.value("""import('/text.js').then(({ cut }) => %s.map((text) => { const { commands, blemishes, comments } = cut(text);
             return [commands.map((one) => [one.text, one.start, one.end, [0, 1, 3, one.text.length].map((at) => one.place(at))]),
                     blemishes.map(({ start, end, text: told }) => [start, end, told]), comments]; }))""" % json.dumps(texts))
         for content, seen in zip(texts, found):
@@ -426,6 +427,22 @@ class Words(InBrowser):
                 self.assertEqual([one[3] for one in seen[0]], places, content)
             self.assertEqual(seen[1], [[units[one.start], units[one.end], one.text] for one in cut.blemishes], content)
             self.assertEqual(seen[2], [[units[first], units[last]] for first, last in cut.comments], content)
+
+    def test_refusals_are_told_alike(self):
+        cases = []
+        for content in self.TEXTS:
+            cases += [(content, protocol.SYNTAX, str(at)) for at in range(len(content) + 1)]
+            names = sorted({*content.replace("`", " ").split(), "x", "thm:A", "const:c", "type:t", "tac:A", "0", "4", "99"})
+            cases += [(content, number, name) for number in range(2, 22) for name in names]
+        told = self.value("""import('/words.js').then(({ explain }) => %s.map(
+            ([text, number, argument]) => explain(text, { number, argument, text: 'said' }, 'that of A')))""" % json.dumps(cases))
+        for (content, number, argument), seen in zip(cases, told):
+            self.assertEqual(tuple(seen), words.explain(content, protocol.Refusal(number, argument, "said"), "that of A"), (content, number, argument))
+
+
+class Words(Alike, InBrowser):
+    def value(self, source):
+        return self.open().value(source)
 
     def test_findings_are_told_alike(self):
         shown = self.open()
@@ -446,18 +463,85 @@ class Words(InBrowser):
             found = shown.value(FOUND)
             self.assertEqual(sorted(found), sorted(expected), content)
 
-    def test_refusals_are_told_alike(self):
-        shown = self.open()
-        cases = []
-        for content in self.TEXTS:
-            cases += [(content, protocol.SYNTAX, str(at)) for at in range(len(content) + 1)]
-            names = sorted({*content.replace("`", " ").split(), "x", "thm:A", "const:c", "type:t", "tac:A", "0", "4", "99"})
-            cases += [(content, number, name) for number in range(2, 22) for name in names]
-        told = shown.value("""import('/words.js').then(({ explain }) => %s.map(
-            ([text, number, argument]) => explain(text, { number, argument, text: 'said' }, 'that of A')))""" % json.dumps(cases))
-        for (content, number, argument), seen in zip(cases, told):
-            self.assertEqual(tuple(seen), words.explain(content, protocol.Refusal(number, argument, "said"), "that of A"), (content, number, argument))
 
+@unittest.skipUnless(NODE, "node isn't installed")
+class InNode(Alike, unittest.TestCase):
+    """The page's modules without the page."""
+
+    def setUp(self):
+        room = tempfile.TemporaryDirectory()
+        self.addCleanup(room.cleanup)
+        self.room = pathlib.Path(room.name)
+        self.modules = self.room / "modules"
+        self.modules.mkdir()
+        for module in FOLDER.glob("*.js"):
+            shutil.copy(str(module), str(self.modules))
+        (self.modules / "package.json").write_text('{"type": "module"}')
+
+    def value(self, source):
+        asked = self.modules / "asked.js"
+        asked.write_text("console.log(JSON.stringify(await (%s)));" % source.replace("import('/", "import('./"), encoding="utf-8")
+        done = subprocess.run([NODE, str(asked)], stdout=subprocess.PIPE, timeout=SECONDS)
+        self.assertEqual(done.returncode, 0)
+        return json.loads(done.stdout)
+
+    def page(self, program, states):
+        """What the page says of theories over a program, in each of some states: texts by names, in the order in which they were opened."""
+        return self.value(OVER % (json.dumps(str(program)), json.dumps([list(texts.items()) for texts in states])))
+
+    def editors(self, program, texts):
+        """What the editors say of the theories as files."""
+        folder = self.room / "files"
+        folder.mkdir()
+        for name, content in texts.items():
+            (folder / (name + ".hol")).write_text(content)
+        done = subprocess.run([*PYTHON, str(HOLLS), "check", "--json", "--server", str(program), str(folder)], stdout=subprocess.PIPE, timeout=SECONDS)
+        shutil.rmtree(str(folder))
+        found = {name: [] for name in texts}
+        for one in map(json.loads, done.stdout.splitlines()):
+            if "text" in one:
+                said = re.sub("there is no file (.*)[.]hol in .*", r"there is no theory \1 here: open it, or make a new one of that name", one["text"])
+                found[pathlib.Path(one["file"]).stem].append([one["line"], one["column"], one["end_line"], one["end_column"], said])
+        return found
+
+    def test_imports_are_told_alike_whatever_was_open_before(self):
+        """Circles among them, by edits of which some come before the last one is answered."""
+        program, chosen = fake(self.room), random.Random(11)
+        pieces = ["import %s;;\n" % name for name in "ABCDE"] * 2 + ["new_axiom K `p`;;\n", "g M `q = q`;;\n", "e REFL_TAC;;\nqed;;\n", proofs(1)]
+        states = [{"A": "import B;;\n" * 3 + proofs(1), "B": "import A;;\n" * 3 + proofs(1)}, {"B": proofs(1), "A": "import B;;\n" * 3 + proofs(1)}]
+        for _ in range(14):
+            names = chosen.sample("ABCDE", chosen.randrange(2, 6))
+            states.append({name: "".join(chosen.choices(pieces, k=chosen.randrange(6))) for name in names})
+        circle = "imports go in a circle here: A imports B imports A; take one of them out"
+        seen = self.page(program, states)
+        self.assertEqual(seen[0]["A"], [[line, 1, line, 9, circle] for line in (1, 2, 3)])
+        for texts, found in zip(states, seen):
+            wanted = self.editors(program, texts)
+            self.assertEqual({name: sorted(told) for name, told in found.items()}, {name: sorted(told) for name, told in wanted.items()}, texts)
+
+    def test_a_refused_import_says_at_the_goals_what_is_said_at_the_error(self):
+        self.assertEqual(self.value("""import('/theory.js').then(async ({ Theory, wanted }) => {
+            const { state } = await import('/findings.js');
+            const theories = ['A', 'B'].map((name) => new Theory(name, name === 'A' ? 'import B;;import C;;' : 'import A;;'));
+            wanted(theories[0], [theories[0]], theories);
+            theories[0].entries.forEach((entry) => { entry.report = { kind: 'refusal', number: 4, argument: entry.text.slice(-1), text: '' }; });
+            return [theories[0].entries.map(({ text }) => text), state(theories[0], 0).errors, state(theories[0], 1).errors]; })"""), [
+                ["import A", "import C"], ["refused: imports go in a circle here: A imports B imports A; take one of them out"],
+                ["refused: there is no theory C here: open it, or make a new one of that name"]])
+
+    def test_of_too_many_theories_those_that_the_active_one_needs_are_sent(self):
+        names = ["F%02d" % number for number in range(65)]
+        chain = {name: "import %s;;\nqed;;" % before for name, before in zip(names[1:], names)}
+        one, two = self.page(fake(self.room), [{name: "qed;;" for name in names}, {"F00": "", **chain}])
+        none_open = [[1, 1, 1, 4, "no proof is open here: begin one by g NAME `term`;;"]]
+        self.assertEqual((one["F64"], two["F63"][0][4]), (none_open, none_open[0][4]))
+        self.assertEqual(two["F64"], [[1, 1, 1, 2, "the prover holds 64 theories, and this one with those that it imports is 65: import fewer"]])
+
+    @unittest.skipUnless(BUILT.is_file(), "hol_serve isn't built")
+    def test_of_a_circle_nothing_is_taken(self):
+        circle = [1, 1, 1, 9, "imports go in a circle here: A imports B imports A; take one of them out"]
+        texts = {name: "import %s;;\nnew_constant k `:A`;;\n" % other for name, other in ("AB", "BA")}
+        self.assertEqual(self.page(BUILT, [texts]), [{"A": [circle], "B": [circle]}])
 
 @unittest.skipUnless(BUILT.is_file(), "hol_serve isn't built")
 class Program(InBrowser):
@@ -558,6 +642,44 @@ FOUND = """(() => {
   return found.map(({ start, end, text }) => [...at(start), ...at(end), text]);
 })()"""
 """What is said of the theory: first and last line and column, and the words."""
+
+OVER = """(async () => {
+  const [{ Theory, wanted }, { Session }, { findings }] = await Promise.all([import('/theory.js'), import('/session.js'), import('/findings.js')]);
+  const [{ spawn }, { createInterface }] = await Promise.all([import('node:child_process'), import('node:readline')]);
+  const open = () => {
+    const program = spawn(%s, { stdio: ['pipe', 'pipe', 'inherit'] });
+    const waiting = [];
+    createInterface({ input: program.stdout }).on('line', (line) => waiting.shift()(line));
+    return {
+      send(line) {
+        program.stdin.write(`${line}\\n`);
+        return new Promise((answer) => waiting.push(answer));
+      },
+      close: () => program.kill(),
+    };
+  };
+  const isUnknown = ({ report, isAsked, isHidden }) => report === null && !isAsked && !isHidden;
+  const pick = () => session.theories.map((theory) => [theory, theory.entries.findIndex(isUnknown)]).find(([, at]) => at >= 0) ?? null;
+  const session = new Session({ open, pick, told: () => {}, seconds: 600 });
+  const found = [];
+  let theories = [];
+  for (const texts of %s) {
+    theories = texts.map(([name]) => theories.find((theory) => theory.name === name) ?? new Theory(name, ''));
+    for (const [at, [, text]] of texts.entries()) {
+      theories[at].take(text);
+      session.want(wanted(theories[at], theories, theories));
+      if (at %% 2) await new Promise((done) => setTimeout(done, 2));
+    }
+    while (!session.isIdle || pick()) await new Promise((done) => setTimeout(done, 2));
+    if (session.failure) throw new Error(session.failure);
+    const place = (theory, offset) => [theory.lineAt(offset), offset - theory.text.lastIndexOf('\\n', offset - 1)];
+    const told = (theory) => findings(theory).map(({ start, end, text }) => [...place(theory, start), ...place(theory, end), text]);
+    found.push(Object.fromEntries(theories.map((theory) => [theory.name, told(theory)])));
+  }
+  session.stop();
+  return found;
+})()"""
+"""What is said of theories, each by its first and last line and column and the words, after each of some states was reached by edits."""
 
 TYPED = """(async () => {
   const { editor, active } = window.page;
