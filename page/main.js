@@ -203,6 +203,7 @@ class Page {
     this.session.want(order);
     this.settleAt = performance.now() + SETTLED;
     this.keep();
+    if (this.session.isIdle) this.told(); // Where nothing is asked, no reply brings news.
   }
 
   changed() {
