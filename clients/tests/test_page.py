@@ -489,19 +489,20 @@ class InNode(Alike, unittest.TestCase):
         """What the page says of theories over a program, in each of some states: texts by names, in the order in which they were opened."""
         return self.value(OVER % (json.dumps(str(program)), json.dumps([list(texts.items()) for texts in states])))
 
-    def editors(self, program, texts):
-        """What the editors say of the theories as files."""
-        folder = self.room / "files"
-        folder.mkdir()
-        for name, content in texts.items():
-            (folder / (name + ".hol")).write_text(content)
-        done = subprocess.run([*PYTHON, str(HOLLS), "check", "--json", "--server", str(program), str(folder)], stdout=subprocess.PIPE, timeout=SECONDS)
-        shutil.rmtree(str(folder))
-        found = {name: [] for name in texts}
+    def editors(self, program, states):
+        """What the editors say of the same as files, each state in a folder of its own."""
+        for at, texts in enumerate(states):
+            (self.room / "files" / str(at)).mkdir(parents=True)
+            for name, content in texts.items():
+                (self.room / "files" / str(at) / (name + ".hol")).write_text(content)
+        command = [*PYTHON, str(HOLLS), "check", "--json", "--server", str(program), str(self.room / "files")]
+        done = subprocess.run(command, stdout=subprocess.PIPE, timeout=SECONDS)
+        found = [{name: [] for name in texts} for texts in states]
         for one in map(json.loads, done.stdout.splitlines()):
             if "text" in one:
+                file = pathlib.Path(one["file"])
                 said = re.sub("there is no file (.*)[.]hol in .*", r"there is no theory \1 here: open it, or make a new one of that name", one["text"])
-                found[pathlib.Path(one["file"]).stem].append([one["line"], one["column"], one["end_line"], one["end_column"], said])
+                found[int(file.parent.name)][file.stem].append([one["line"], one["column"], one["end_line"], one["end_column"], said])
         return found
 
     def test_imports_are_told_alike_whatever_was_open_before(self):
@@ -509,14 +510,13 @@ class InNode(Alike, unittest.TestCase):
         program, chosen = fake(self.room), random.Random(11)
         pieces = ["import %s;;\n" % name for name in "ABCDE"] * 2 + ["new_axiom K `p`;;\n", "g M `q = q`;;\n", "e REFL_TAC;;\nqed;;\n", proofs(1)]
         states = [{"A": "import B;;\n" * 3 + proofs(1), "B": "import A;;\n" * 3 + proofs(1)}, {"B": proofs(1), "A": "import B;;\n" * 3 + proofs(1)}]
-        for _ in range(14):
+        for _ in range(40):
             names = chosen.sample("ABCDE", chosen.randrange(2, 6))
             states.append({name: "".join(chosen.choices(pieces, k=chosen.randrange(6))) for name in names})
         circle = "imports go in a circle here: A imports B imports A; take one of them out"
         seen = self.page(program, states)
         self.assertEqual(seen[0]["A"], [[line, 1, line, 9, circle] for line in (1, 2, 3)])
-        for texts, found in zip(states, seen):
-            wanted = self.editors(program, texts)
+        for texts, found, wanted in zip(states, seen, self.editors(program, states)):
             self.assertEqual({name: sorted(told) for name, told in found.items()}, {name: sorted(told) for name, told in wanted.items()}, texts)
 
     def test_a_refused_import_says_at_the_goals_what_is_said_at_the_error(self):
