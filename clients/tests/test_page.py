@@ -278,8 +278,10 @@ class Editing(InBrowser):
         self.assertEqual(shown.value("[...document.querySelectorAll('#tabs button')].map((item) => item.textContent)"), ["Lesson1", "Theory1", "Theory2"])
         shown.value("document.querySelectorAll('#tabs button')[1].click()")
         self.write("g LEFT `x = x`;;\ne REFL_TAC;;\nqed;;\nimport Theory2;;")
-        self.settled()
-        self.assertIn("imports go in a circle here", self.errors()[0])
+        circle = "imports go in a circle here: Theory1 imports Theory2 imports Theory1; take one of them out"
+        self.assertEqual(self.errors(), ["Line 4: " + circle])
+        shown.value("document.querySelectorAll('#tabs button')[2].click()")
+        self.assertEqual(self.errors(), ["Line 1: " + circle, "Line 2: there is no theory Theory3 here: open it, or make a new one of that name"])
 
     def test_it_is_kept_saved_and_opened(self):
         shown = self.open()
@@ -528,6 +530,21 @@ class InNode(Alike, unittest.TestCase):
             return [theories[0].entries.map(({ text }) => text), state(theories[0], 0).errors, state(theories[0], 1).errors]; })"""), [
                 ["import A", "import C"], ["refused: imports go in a circle here: A imports B imports A; take one of them out"],
                 ["refused: there is no theory C here: open it, or make a new one of that name"]])
+
+    def test_what_is_shown_is_the_theory_that_is_active_also_where_the_prover_is_not_asked(self):
+        shutil.copy(str(CLIENTS / "tests" / "page.js"), str(self.modules))
+        tabs = json.dumps([{"name": name, "text": "import %s;;\n" % other * count} for name, other, count in (("A", "B", 1), ("B", "A", 2))])
+        done = subprocess.run([NODE, str(self.modules / "page.js"), fake(self.room), tabs], stdout=subprocess.PIPE, timeout=SECONDS)
+        self.assertEqual(done.returncode, 0)
+        circle = "imports go in a circle here: A imports B imports A; take one of them out"
+        missing = "there is no theory B here: open it, or make a new one of that name"
+        none_open = "No proof is open. Begin one by g NAME `term`;;"
+        own = [["Line 1: " + circle], "refused: " + circle + none_open]
+        self.assertEqual(json.loads(done.stdout), [
+            own, [["Line 1: " + circle, "Line 2: " + circle], own[1]], own, [own[0] + ["Line 2: this comment is never closed: end it by `*)`"], own[1]], own,
+            [[], "made by new_axiom on line 1thm K |- p"], [[], "made by import on line 1thm K |- p"],
+            [["Line 1: " + missing], "refused: " + missing + none_open], [[], "made by new_axiom on line 1thm L |- p"],
+            [[], "made by import on line 1thm L |- p"]])
 
     def test_of_too_many_theories_those_that_the_active_one_needs_are_sent(self):
         names = ["F%02d" % number for number in range(65)]
