@@ -412,6 +412,13 @@ class Alike:
     ]
     PIECES = ["(*", "*)", ";;", "∀", "∃!", "∃", "¬", "→", "`", " ", "\n", "a", "=", "\\", "😀", "\ufeff", "g A `p`", "/", "\\/"]
 
+    def scraps(self, number):
+        """So many texts of commands that seldom fit."""
+        chosen = random.Random(3)
+        pieces = ["g A%d `p /\\ q = q`;;" % at for at in range(3)] + ["e CONJ_TAC;;", "e ALL_TAC;;", "e REFL_TAC;;", "qed;;", "oops;;", "foo;;", ";;", "(* x *)",
+                                                                    "new_axiom B `q = q`;;", "g C `x x`;;", "e FOO_TAC;;", "g D `p` (* never"]
+        return ["\n".join(chosen.choices(pieces, k=chosen.randrange(1, 14))) for _ in range(number)]
+
     def test_commands_are_cut_alike(self):
         chosen = random.Random(1)
         texts = [file.read_text(encoding="utf-8") for file in sorted(THEORIES.glob("*.hol"))]
@@ -448,10 +455,7 @@ class Words(Alike, InBrowser):
 
     def test_findings_are_told_alike(self):
         shown = self.open()
-        chosen = random.Random(3)
-        pieces = ["g A%d `p /\\ q = q`;;" % at for at in range(3)] + ["e CONJ_TAC;;", "e ALL_TAC;;", "e REFL_TAC;;", "qed;;", "oops;;", "foo;;", ";;", "(* x *)",
-                                                                    "new_axiom B `q = q`;;", "g C `x x`;;", "e FOO_TAC;;", "g D `p` (* never"]
-        texts = ["\n".join(chosen.choices(pieces, k=chosen.randrange(1, 14))) for _ in range(24)]
+        texts = self.scraps(24)
         for at, content in enumerate(texts):
             (self.room / ("T%d.hol" % at)).write_text(content)
         command = [*PYTHON, str(CLIENTS / "bin" / "holls"), "check", "--json", "--server", str(self.room / "server"), str(self.room)]
@@ -506,6 +510,12 @@ class InNode(Alike, unittest.TestCase):
                 said = re.sub("there is no file (.*)[.]hol in .*", r"there is no theory \1 here: open it, or make a new one of that name", one["text"])
                 found[int(file.parent.name)][file.stem].append([one["line"], one["column"], one["end_line"], one["end_column"], said])
         return found
+
+    def test_findings_are_told_alike(self):
+        states = [{"T": content} for content in self.scraps(200)]
+        program = fake(self.room)
+        for texts, found, wanted in zip(states, self.page(program, states), self.editors(program, states)):
+            self.assertEqual(sorted(found["T"]), sorted(wanted["T"]), texts)
 
     def test_imports_are_told_alike_whatever_was_open_before(self):
         """Circles among them, by edits of which some come before the last one is answered."""
