@@ -60,8 +60,7 @@ class Walk {
   }
 
   isTold(number, refusal) {
-    const { start } = this.theory.commands[number];
-    return refusal.number === NUMBERS.unknownTheory && this.theory.context.some((blemish) => blemish.start === start);
+    return refusal.number === NUMBERS.unknownTheory && this.theory.whyNot(number) !== null;
   }
 
   // The refused command from which a refusal follows: the first one of the open proof, or a goal. Null where it is an error of its own.
@@ -128,7 +127,10 @@ export function state(theory, number) {
 }
 
 function whyNot(theory, number, report) {
-  if (report?.kind === 'refusal') return `refused: ${explain(theory.commands[number].text, report)[2]}`;
+  if (report?.kind === 'refusal') {
+    const told = report.number === NUMBERS.unknownTheory ? theory.whyNot(number) : null;
+    return `refused: ${told ?? explain(theory.commands[number].text, report)[2]}`;
+  }
   if (report?.kind === 'lost') return `nothing is known of this command: ${report.reason}`;
   return "this command wasn't sent";
 }

@@ -9,10 +9,9 @@ import { Hour, lessonOf, theoryOf } from './hour.js';
 import { LESSONS, given } from './lessons.js';
 import { completions, known, search } from './names.js';
 import { isName } from './notation.js';
-import { LIMITS } from './tables.js';
 import { Session } from './session.js';
 import { elsewhere, keep, linkOf, linked, nameOfFile, restore, saveFile } from './store.js';
-import { Theory, ordered } from './theory.js';
+import { Theory, wanted } from './theory.js';
 import { open } from './transport.js';
 import { announce, keys, panels, tabs } from './frame.js';
 
@@ -199,31 +198,21 @@ class Page {
   // The prover
 
   want() {
-    let order = ordered([...this.opened], this.theories).filter(({ isSent }) => isSent);
-    if (order.length > LIMITS.theories) order = ordered([this.active], this.theories).filter(({ isSent }) => isSent);
+    const order = wanted(this.active, [...this.opened], this.theories);
     for (const theory of order) this.opened.add(theory);
     this.session.want(order);
     this.settleAt = performance.now() + SETTLED;
     this.keep();
+    if (this.session.isIdle) this.told(); // Where nothing is asked, no reply brings news.
   }
 
   changed() {
     const { active } = this;
     active.take(this.editor.text);
     this.editor.paint(active);
-    for (const theory of this.theories) if (theory !== active && this.dependsOn(theory, active.name)) theory.forget();
     this.want();
     this.look();
     this.choices.typed();
-  }
-
-  dependsOn(theory, name) {
-    const waiting = [...theory.imports];
-    for (const other of waiting) {
-      if (other === name) return true;
-      for (const next of this.theories.find((one) => one.name === other)?.imports ?? []) if (!waiting.includes(next)) waiting.push(next);
-    }
-    return false;
   }
 
   // What is asked for next: what the goals at the cursor need, then the commands from the cursor on, then all others.
@@ -232,7 +221,8 @@ class Page {
     const now = state(active, this.number());
     if ('unknown' in now && !active.entries[now.unknown].isAsked) return [active, now.unknown];
     const first = active.slots[Math.max(0, this.number())] ?? 0;
-    for (const theory of [active, ...this.session.theories.filter((other) => other !== active)]) {
+    const { theories } = this.session;
+    for (const theory of [...theories.filter((one) => one === active), ...theories.filter((one) => one !== active)]) {
       const at = nextUnknown(theory, theory === active ? first : 0);
       if (at >= 0) return [theory, at];
     }
@@ -320,7 +310,7 @@ class Page {
       const again = element('button', { onclick: () => this.want() }, 'Try again');
       $('banner').replaceChildren(`The prover doesn't answer: ${failure}. `, again);
     }
-    const all = active.entries.filter(({ isHidden }) => !isHidden);
+    const all = active.isSent ? active.entries.filter(({ isHidden }) => !isHidden) : [];
     const known = all.filter(({ report }) => report !== null).length;
     const isSlow = session.running > 0.9;
     $('stop').hidden = !isSlow;

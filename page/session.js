@@ -8,7 +8,7 @@ import { Standing, line } from './standing.js';
 
 const PATIENCE = 0.5; // What is under way for so many seconds is looked at: whether it is worth to be waited for.
 const SLOW = 1; // A command that runs for so many seconds is marked, and can be stopped.
-const START = 60; // What runs no command and takes so many seconds has a program that hangs.
+const START = 10; // So many seconds, at least, a program may take for what runs no command, as where it starts, however few a command has.
 const ENDS = 6; // After so many ends of the program since the last edit it isn't started again.
 const WINDOW = 16; // So many requests are sent ahead at most, and hardly more than take WINDOW_SECONDS: a later edit waits for these.
 const WINDOW_SECONDS = 0.02;

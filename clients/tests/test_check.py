@@ -10,9 +10,9 @@ import threading
 import time
 import unittest
 
-from holls import checking, graph
+from holls import checking, graph, session
 from holls.files import File
-from tests.helpers import BUILT, HOLLS, PYTHON, ROOT, SECONDS, fake, proofs
+from tests.helpers import BUILT, CLIENTS, HOLLS, PYTHON, ROOT, SECONDS, fake, proofs
 
 
 class Checking(unittest.TestCase):
@@ -21,13 +21,13 @@ class Checking(unittest.TestCase):
         self.addCleanup(folder.cleanup)
         self.folder = pathlib.Path(folder.name)
 
-    def check(self, files, *words, server=()):
+    def check(self, files, *words, server=(), holls=(str(HOLLS),)):
         """Status, standard output and standard error over files of these contents."""
         for name, content in files.items():
             (self.folder / name).write_bytes(content if isinstance(content, bytes) else content.encode())
         program = fake(self.folder, *server)
         done = subprocess.run(
-            [*PYTHON, str(HOLLS), "check", "--server", program, *words, *files], cwd=self.folder, capture_output=True, timeout=SECONDS)
+            [*PYTHON, *holls, "check", "--server", program, *words, *files], cwd=self.folder, capture_output=True, timeout=SECONDS)
         self.assertNotIn(b"Traceback", done.stderr + done.stdout)
         return done.returncode, done.stdout.decode(), done.stderr.decode()
 
@@ -94,9 +94,12 @@ class Checking(unittest.TestCase):
                 self.assertEqual((status, output), (0, "A.hol: 8 commands, 2 theorems, all accepted\n"))
 
     def test_a_program_that_hangs_as_it_starts_is_status_2_soon(self):
+        """With a fifth of the time that a start has at least: the test takes it twice."""
+        self.assertEqual(session.START_SECONDS, 10)
+        hasty = "import sys; sys.path.insert(0, %r); from holls import __main__, session; session.START_SECONDS = 2; sys.exit(__main__.run())"
         begun = time.monotonic()
-        status, _, errors = self.check({"A.hol": proofs(1)}, "--seconds", "1", server=("--fault", "hang:1"))
-        self.assertEqual((status, errors), (2, "holls: hol_serve gave no answer within 10 seconds, and again when it was started anew\n"))
+        status, _, errors = self.check({"A.hol": proofs(1)}, "--seconds", "1", server=("--fault", "hang:1"), holls=("-c", hasty % str(CLIENTS)))
+        self.assertEqual((status, errors), (2, "holls: hol_serve gave no answer within 2 seconds, and again when it was started anew\n"))
         self.assertLess(time.monotonic() - begun, 90)
 
     def test_a_command_that_runs_too_long_is_status_2_and_the_rest_is_checked(self):

@@ -1,9 +1,10 @@
-"""The page: its server without a browser, and all of it in headless Chromium where that is installed."""
+"""The page: its server without a browser, its modules in Node, and all of it in headless Chromium, where these are installed."""
 
 import http.client
 import json
 import pathlib
 import random
+import re
 import shutil
 import subprocess
 import sys
@@ -16,6 +17,7 @@ from holls.websocket import WebSocket, new_key
 from tests import browser
 from tests.helpers import BUILT, CLIENTS, HOLLS, PYTHON, ROOT, SECONDS, fake, proofs
 
+NODE = shutil.which("node")
 FOLDER = ROOT / "page"
 EXAMPLES = ROOT / "examples"
 THEORIES = EXAMPLES / "theories"
@@ -276,8 +278,10 @@ class Editing(InBrowser):
         self.assertEqual(shown.value("[...document.querySelectorAll('#tabs button')].map((item) => item.textContent)"), ["Lesson1", "Theory1", "Theory2"])
         shown.value("document.querySelectorAll('#tabs button')[1].click()")
         self.write("g LEFT `x = x`;;\ne REFL_TAC;;\nqed;;\nimport Theory2;;")
-        self.settled()
-        self.assertIn("imports go in a circle here", self.errors()[0])
+        circle = "imports go in a circle here: Theory1 imports Theory2 imports Theory1; take one of them out"
+        self.assertEqual(self.errors(), ["Line 4: " + circle])
+        shown.value("document.querySelectorAll('#tabs button')[2].click()")
+        self.assertEqual(self.errors(), ["Line 1: " + circle, "Line 2: there is no theory Theory3 here: open it, or make a new one of that name"])
 
     def test_it_is_kept_saved_and_opened(self):
         shown = self.open()
@@ -392,8 +396,8 @@ class Editing(InBrowser):
                          ["tab-theorems", False, True])
 
 
-class Words(InBrowser):
-    """What the page says is what the editors say."""
+class Alike:
+    """What the page says is what the editors say; `value` answers what a JavaScript expression over the page's modules comes to."""
 
     TEXTS = [
         "", "g", "g A", "g `x`", "g A `x = `;;", "g A `x", "e FOO_TAC", "e REFL_TC", "e DISCH_THEN REWRITE_TAC", "e DISCH_THEN GEN_TAC",
@@ -408,12 +412,18 @@ class Words(InBrowser):
     ]
     PIECES = ["(*", "*)", ";;", "∀", "∃!", "∃", "¬", "→", "`", " ", "\n", "a", "=", "\\", "😀", "\ufeff", "g A `p`", "/", "\\/"]
 
+    def scraps(self, number):
+        """So many texts of commands that seldom fit."""
+        chosen = random.Random(3)
+        pieces = ["g A%d `p /\\ q = q`;;" % at for at in range(3)] + ["e CONJ_TAC;;", "e ALL_TAC;;", "e REFL_TAC;;", "qed;;", "oops;;", "foo;;", ";;", "(* x *)",
+                                                                    "new_axiom B `q = q`;;", "g C `x x`;;", "e FOO_TAC;;", "g D `p` (* never"]
+        return ["\n".join(chosen.choices(pieces, k=chosen.randrange(1, 14))) for _ in range(number)]
+
     def test_commands_are_cut_alike(self):
-        shown = self.open()
         chosen = random.Random(1)
         texts = [file.read_text(encoding="utf-8") for file in sorted(THEORIES.glob("*.hol"))]
         texts += ["".join(chosen.choices(self.PIECES, k=chosen.randrange(14))) for _ in range(600)]
-        found = shown.value("""import('/text.js').then(({ cut }) => %s.map((text) => { const { commands, blemishes, comments } = cut(text);
+        found = self.value("""import('/text.js').then(({ cut }) => %s.map((text) => { const { commands, blemishes, comments } = cut(text);
             return [commands.map((one) => [one.text, one.start, one.end, [0, 1, 3, one.text.length].map((at) => one.place(at))]),
                     blemishes.map(({ start, end, text: told }) => [start, end, told]), comments]; }))""" % json.dumps(texts))
         for content, seen in zip(texts, found):
@@ -427,12 +437,25 @@ class Words(InBrowser):
             self.assertEqual(seen[1], [[units[one.start], units[one.end], one.text] for one in cut.blemishes], content)
             self.assertEqual(seen[2], [[units[first], units[last]] for first, last in cut.comments], content)
 
+    def test_refusals_are_told_alike(self):
+        cases = []
+        for content in self.TEXTS:
+            cases += [(content, protocol.SYNTAX, str(at)) for at in range(len(content) + 1)]
+            names = sorted({*content.replace("`", " ").split(), "x", "thm:A", "const:c", "type:t", "tac:A", "0", "4", "99"})
+            cases += [(content, number, name) for number in range(2, 22) for name in names]
+        told = self.value("""import('/words.js').then(({ explain }) => %s.map(
+            ([text, number, argument]) => explain(text, { number, argument, text: 'said' }, 'that of A')))""" % json.dumps(cases))
+        for (content, number, argument), seen in zip(cases, told):
+            self.assertEqual(tuple(seen), words.explain(content, protocol.Refusal(number, argument, "said"), "that of A"), (content, number, argument))
+
+
+class Words(Alike, InBrowser):
+    def value(self, source):
+        return self.open().value(source)
+
     def test_findings_are_told_alike(self):
         shown = self.open()
-        chosen = random.Random(3)
-        pieces = ["g A%d `p /\\ q = q`;;" % at for at in range(3)] + ["e CONJ_TAC;;", "e ALL_TAC;;", "e REFL_TAC;;", "qed;;", "oops;;", "foo;;", ";;", "(* x *)",
-                                                                    "new_axiom B `q = q`;;", "g C `x x`;;", "e FOO_TAC;;", "g D `p` (* never"]
-        texts = ["\n".join(chosen.choices(pieces, k=chosen.randrange(1, 14))) for _ in range(24)]
+        texts = self.scraps(24)
         for at, content in enumerate(texts):
             (self.room / ("T%d.hol" % at)).write_text(content)
         command = [*PYTHON, str(CLIENTS / "bin" / "holls"), "check", "--json", "--server", str(self.room / "server"), str(self.room)]
@@ -446,18 +469,106 @@ class Words(InBrowser):
             found = shown.value(FOUND)
             self.assertEqual(sorted(found), sorted(expected), content)
 
-    def test_refusals_are_told_alike(self):
-        shown = self.open()
-        cases = []
-        for content in self.TEXTS:
-            cases += [(content, protocol.SYNTAX, str(at)) for at in range(len(content) + 1)]
-            names = sorted({*content.replace("`", " ").split(), "x", "thm:A", "const:c", "type:t", "tac:A", "0", "4", "99"})
-            cases += [(content, number, name) for number in range(2, 22) for name in names]
-        told = shown.value("""import('/words.js').then(({ explain }) => %s.map(
-            ([text, number, argument]) => explain(text, { number, argument, text: 'said' }, 'that of A')))""" % json.dumps(cases))
-        for (content, number, argument), seen in zip(cases, told):
-            self.assertEqual(tuple(seen), words.explain(content, protocol.Refusal(number, argument, "said"), "that of A"), (content, number, argument))
 
+@unittest.skipUnless(NODE, "node isn't installed")
+class InNode(Alike, unittest.TestCase):
+    """The page's modules without the page."""
+
+    def setUp(self):
+        room = tempfile.TemporaryDirectory()
+        self.addCleanup(room.cleanup)
+        self.room = pathlib.Path(room.name)
+        self.modules = self.room / "modules"
+        self.modules.mkdir()
+        for module in FOLDER.glob("*.js"):
+            shutil.copy(str(module), str(self.modules))
+        (self.modules / "package.json").write_text('{"type": "module"}')
+
+    def value(self, source):
+        asked = self.modules / "asked.js"
+        asked.write_text("console.log(JSON.stringify(await (%s)));" % source.replace("import('/", "import('./"), encoding="utf-8")
+        done = subprocess.run([NODE, str(asked)], stdout=subprocess.PIPE, timeout=SECONDS)
+        self.assertEqual(done.returncode, 0)
+        return json.loads(done.stdout)
+
+    def page(self, program, states):
+        """What the page says of theories over a program, in each of some states: texts by names, in the order in which they were opened."""
+        return self.value(OVER % (json.dumps(str(program)), json.dumps([list(texts.items()) for texts in states])))
+
+    def editors(self, program, states):
+        """What the editors say of the same as files, each state in a folder of its own."""
+        for at, texts in enumerate(states):
+            (self.room / "files" / str(at)).mkdir(parents=True)
+            for name, content in texts.items():
+                (self.room / "files" / str(at) / (name + ".hol")).write_text(content)
+        command = [*PYTHON, str(HOLLS), "check", "--json", "--server", str(program), str(self.room / "files")]
+        done = subprocess.run(command, stdout=subprocess.PIPE, timeout=SECONDS)
+        found = [{name: [] for name in texts} for texts in states]
+        for one in map(json.loads, done.stdout.splitlines()):
+            if "text" in one:
+                file = pathlib.Path(one["file"])
+                said = re.sub("there is no file (.*)[.]hol in .*", r"there is no theory \1 here: open it, or make a new one of that name", one["text"])
+                found[int(file.parent.name)][file.stem].append([one["line"], one["column"], one["end_line"], one["end_column"], said])
+        return found
+
+    def test_findings_are_told_alike(self):
+        states = [{"T": content} for content in self.scraps(200)]
+        program = fake(self.room)
+        for texts, found, wanted in zip(states, self.page(program, states), self.editors(program, states)):
+            self.assertEqual(sorted(found["T"]), sorted(wanted["T"]), texts)
+
+    def test_imports_are_told_alike_whatever_was_open_before(self):
+        """Circles among them, by edits of which some come before the last one is answered."""
+        program, chosen = fake(self.room), random.Random(11)
+        pieces = ["import %s;;\n" % name for name in "ABCDE"] * 2 + ["new_axiom K `p`;;\n", "g M `q = q`;;\n", "e REFL_TAC;;\nqed;;\n", proofs(1)]
+        states = [{"A": "import B;;\n" * 3 + proofs(1), "B": "import A;;\n" * 3 + proofs(1)}, {"B": proofs(1), "A": "import B;;\n" * 3 + proofs(1)}]
+        for _ in range(40):
+            names = chosen.sample("ABCDE", chosen.randrange(2, 6))
+            states.append({name: "".join(chosen.choices(pieces, k=chosen.randrange(6))) for name in names})
+        circle = "imports go in a circle here: A imports B imports A; take one of them out"
+        seen = self.page(program, states)
+        self.assertEqual(seen[0]["A"], [[line, 1, line, 9, circle] for line in (1, 2, 3)])
+        for texts, found, wanted in zip(states, seen, self.editors(program, states)):
+            self.assertEqual({name: sorted(told) for name, told in found.items()}, {name: sorted(told) for name, told in wanted.items()}, texts)
+
+    def test_a_refused_import_says_at_the_goals_what_is_said_at_the_error(self):
+        self.assertEqual(self.value("""import('/theory.js').then(async ({ Theory, wanted }) => {
+            const { state } = await import('/findings.js');
+            const theories = ['A', 'B'].map((name) => new Theory(name, name === 'A' ? 'import B;;import C;;' : 'import A;;'));
+            wanted(theories[0], [theories[0]], theories);
+            theories[0].entries.forEach((entry) => { entry.report = { kind: 'refusal', number: 4, argument: entry.text.slice(-1), text: '' }; });
+            return [theories[0].entries.map(({ text }) => text), state(theories[0], 0).errors, state(theories[0], 1).errors]; })"""), [
+                ["import A", "import C"], ["refused: imports go in a circle here: A imports B imports A; take one of them out"],
+                ["refused: there is no theory C here: open it, or make a new one of that name"]])
+
+    def test_what_is_shown_is_the_theory_that_is_active_also_where_the_prover_is_not_asked(self):
+        shutil.copy(str(CLIENTS / "tests" / "page.js"), str(self.modules))
+        tabs = json.dumps([{"name": name, "text": "import %s;;\n" % other * count} for name, other, count in (("A", "B", 1), ("B", "A", 2))])
+        done = subprocess.run([NODE, str(self.modules / "page.js"), fake(self.room), tabs], stdout=subprocess.PIPE, timeout=SECONDS)
+        self.assertEqual(done.returncode, 0)
+        circle = "imports go in a circle here: A imports B imports A; take one of them out"
+        missing = "there is no theory B here: open it, or make a new one of that name"
+        none_open = "No proof is open. Begin one by g NAME `term`;;"
+        own = [["Line 1: " + circle], "refused: " + circle + none_open]
+        self.assertEqual(json.loads(done.stdout), [
+            own, [["Line 1: " + circle, "Line 2: " + circle], own[1]], own, [own[0] + ["Line 2: this comment is never closed: end it by `*)`"], own[1]], own,
+            [[], "made by new_axiom on line 1thm K |- p"], [[], "made by import on line 1thm K |- p"],
+            [["Line 1: " + missing], "refused: " + missing + none_open], [[], "made by new_axiom on line 1thm L |- p"],
+            [[], "made by import on line 1thm L |- p"]])
+
+    def test_of_too_many_theories_those_that_the_active_one_needs_are_sent(self):
+        names = ["F%02d" % number for number in range(65)]
+        chain = {name: "import %s;;\nqed;;" % before for name, before in zip(names[1:], names)}
+        one, two = self.page(fake(self.room), [{name: "qed;;" for name in names}, {"F00": "", **chain}])
+        none_open = [[1, 1, 1, 4, "no proof is open here: begin one by g NAME `term`;;"]]
+        self.assertEqual((one["F64"], two["F63"][0][4]), (none_open, none_open[0][4]))
+        self.assertEqual(two["F64"], [[1, 1, 1, 2, "the prover holds 64 theories, and this one with those that it imports is 65: import fewer"]])
+
+    @unittest.skipUnless(BUILT.is_file(), "hol_serve isn't built")
+    def test_of_a_circle_nothing_is_taken(self):
+        circle = [1, 1, 1, 9, "imports go in a circle here: A imports B imports A; take one of them out"]
+        texts = {name: "import %s;;\nnew_constant k `:A`;;\n" % other for name, other in ("AB", "BA")}
+        self.assertEqual(self.page(BUILT, [texts]), [{"A": [circle], "B": [circle]}])
 
 @unittest.skipUnless(BUILT.is_file(), "hol_serve isn't built")
 class Program(InBrowser):
@@ -558,6 +669,44 @@ FOUND = """(() => {
   return found.map(({ start, end, text }) => [...at(start), ...at(end), text]);
 })()"""
 """What is said of the theory: first and last line and column, and the words."""
+
+OVER = """(async () => {
+  const [{ Theory, wanted }, { Session }, { findings }] = await Promise.all([import('/theory.js'), import('/session.js'), import('/findings.js')]);
+  const [{ spawn }, { createInterface }] = await Promise.all([import('node:child_process'), import('node:readline')]);
+  const open = () => {
+    const program = spawn(%s, { stdio: ['pipe', 'pipe', 'inherit'] });
+    const waiting = [];
+    createInterface({ input: program.stdout }).on('line', (line) => waiting.shift()(line));
+    return {
+      send(line) {
+        program.stdin.write(`${line}\\n`);
+        return new Promise((answer) => waiting.push(answer));
+      },
+      close: () => program.kill(),
+    };
+  };
+  const isUnknown = ({ report, isAsked, isHidden }) => report === null && !isAsked && !isHidden;
+  const pick = () => session.theories.map((theory) => [theory, theory.entries.findIndex(isUnknown)]).find(([, at]) => at >= 0) ?? null;
+  const session = new Session({ open, pick, told: () => {}, seconds: 600 });
+  const found = [];
+  let theories = [];
+  for (const texts of %s) {
+    theories = texts.map(([name]) => theories.find((theory) => theory.name === name) ?? new Theory(name, ''));
+    for (const [at, [, text]] of texts.entries()) {
+      theories[at].take(text);
+      session.want(wanted(theories[at], theories, theories));
+      if (at %% 2) await new Promise((done) => setTimeout(done, 2));
+    }
+    while (!session.isIdle || pick()) await new Promise((done) => setTimeout(done, 2));
+    if (session.failure) throw new Error(session.failure);
+    const place = (theory, offset) => [theory.lineAt(offset), offset - theory.text.lastIndexOf('\\n', offset - 1)];
+    const told = (theory) => findings(theory).map(({ start, end, text }) => [...place(theory, start), ...place(theory, end), text]);
+    found.push(Object.fromEntries(theories.map((theory) => [theory.name, told(theory)])));
+  }
+  session.stop();
+  return found;
+})()"""
+"""What is said of theories, each by its first and last line and column and the words, after each of some states was reached by edits."""
 
 TYPED = """(async () => {
   const { editor, active } = window.page;

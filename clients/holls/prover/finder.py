@@ -51,7 +51,8 @@ class Finder:
     """Finds steps for the first goal of a proof in a server, by what stands there. `written` is the text of the statement that is proved.
 
     What it comes to nothing by: `counterexample`, what variables may be so that the goal is false; `refused`, how many proofs were found
-    whose steps can't be written or are refused; `is_cut`, whether a part of the search had no more time.
+    whose steps can't be written or are refused; `is_cut`, whether a part of the search had no more time; `is_too_deep`, whether terms were
+    nested too deeply for the search to read them or to come to its end.
     """
 
     def __init__(self, asker: Asker, standing: Scope, goals: Goals, written: str, until: float) -> None:
@@ -61,7 +62,7 @@ class Finder:
         self.middle = standing.named(scripts.MIDDLE)
         self.functions = named.Functions(standing.functions)
         self.refused = 0
-        self.is_cut = False
+        self.is_cut = self.is_too_deep = False
         self.counterexample: Optional[Dict[str, bool]] = None
         self.open: List[str] = []
         self.is_growing = False
@@ -76,6 +77,7 @@ class Finder:
         try:
             return self._find(theorems)
         except RecursionError:
+            self.is_too_deep = True
             return None
 
     def why_none(self, seconds: float) -> str:
@@ -89,6 +91,8 @@ class Finder:
                 "" if is_one else "s", " and ".join(self.open), "is" if is_one else "are", "it one" if is_one else "them some")
         if time.monotonic() >= self.until:
             return " within %g seconds" % seconds
+        if self.is_too_deep:
+            return ": the goal is nested too deeply for this search"
         return ": each way to search had its part of the %g seconds" % seconds if self.is_cut else ": all that this search tries was tried"
 
     def _find(self, theorems: Optional[Sequence[str]]) -> Optional[List[str]]:
@@ -98,6 +102,7 @@ class Finder:
         try:
             items = self._items(self.goal)
         except (Unreadable, RecursionError):
+            self.is_too_deep = True
             return self._at_once(theorems or ())
         self.open = retyping.left_open([item.term for item in items])
         self.is_growing = any(trying.grows(item.term) for item in items)
