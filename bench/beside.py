@@ -16,8 +16,8 @@
             are the calls alone, with the reading of their quotations, and beside it all that its toplevel takes with reading OCaml. Ours is all from the first request
   library   how long the theorems of theories/ that HOL Light has by these names take, there by its own tactics; once
 
-Both sides take turns on one processor: a round of a row is HOL Light's measurement and, right behind it, ours, each of a fifth of a second, so that a processor that others
-make slow is slow for both. Shown are the medians of the rounds: of each side, and of the rounds' ratios, which needn't be the ratio of the other two. HOL Light is Debian's
+Both sides take turns on one processor, the one on which a loop takes least at the beginning: a round of a row is HOL Light's measurement and, right behind it, ours, each of a
+fifth of a second, so that a processor that others make slow is slow for both. What that loop takes is printed at the beginning and at the end: it tells how busy the machine is. Shown are the medians of the rounds: of each side, and of the rounds' ratios, which needn't be the ratio of the other two. HOL Light is Debian's
 package (apt-get install hol-light libnum-ocaml-dev), loaded up to class.ml. Where it is not installed, only our figures are printed.
 
 Needs Python 3.8 and Linux, and nothing else.
@@ -29,6 +29,7 @@ import pathlib
 import re
 import statistics
 import sys
+import time
 
 import hol_light
 from bench import ONE_KEPT, Session, anew, expect, is_done, is_run, measure, new_theory, put, repeated, report, request
@@ -403,15 +404,28 @@ def library_part(program, _rounds):
     print(line)
 
 
+def loop_seconds(processor):
+    """What a loop of ours takes on this processor, the least of five times."""
+    os.sched_setaffinity(0, {processor})
+    taken = []
+    for _ in range(5):
+        before = time.process_time()
+        sum(range(1_000_000))
+        taken.append(time.process_time() - before)
+    return min(taken)
+
+
 def main():
     parser = argparse.ArgumentParser(description=__doc__, formatter_class=argparse.RawDescriptionHelpFormatter)
     parser.add_argument("--program", help="the built hol_bench")
     parser.add_argument("--serve", help="the built hol_serve")
     parser.add_argument("--rounds", type=int, default=9)
     parser.add_argument("--only", default="", help="kernel, derived, rules, theories or library")
-    parser.add_argument("--processor", type=int, default=max(os.sched_getaffinity(0)), help="the processor on which both sides run")
+    parser.add_argument("--processor", type=int, help="the processor on which both sides run")
     given = parser.parse_args()
-    os.sched_setaffinity(0, {given.processor})
+    seconds = {each: loop_seconds(each) for each in ([given.processor] if given.processor is not None else sorted(os.sched_getaffinity(0)))}
+    processor = min(seconds, key=seconds.get)
+    print(f"on processor {processor}, where a loop takes {1000 * loop_seconds(processor):.1f} ms", flush=True)
     program, serve = (path and os.path.abspath(path) for path in (given.program, given.serve))
     if not hol_light.installed():
         print("HOL Light is not installed")
@@ -419,6 +433,7 @@ def main():
     for part, work, needed in parts:
         if given.only in part:
             work(needed, given.rounds)
+    print(f"at the end that loop takes {1000 * loop_seconds(processor):.1f} ms")
 
 
 if __name__ == "__main__":
