@@ -16,8 +16,9 @@
             are the calls alone, with the reading of their quotations, and beside it all that its toplevel takes with reading OCaml. Ours is all from the first request
   library   how long the theorems of theories/ that HOL Light has by these names take, there by its own tactics; once
 
-Both sides take turns on one processor, the one on which a loop takes least at the beginning: a round of a row is HOL Light's measurement and, right behind it, ours, each of a
-fifth of a second, so that a processor that others make slow is slow for both. What that loop takes is printed at the beginning and at the end: it tells how busy the machine is. Shown are the medians of the rounds: of each side, and of the rounds' ratios, which needn't be the ratio of the other two. HOL Light is Debian's
+Both sides take turns on one processor, the one on which a loop takes least at the beginning: a round of a row is HOL Light's measurement and, right behind it, ours, of a tenth
+of a second each. Shown are the best round of each side and the ratio of these two, since what else a machine does only slows; and behind it the median of the rounds' ratios. A
+fourth of the rounds are taken for `rules` and `theories`. What that loop takes is printed at the beginning and at the end: it tells how busy the machine is. HOL Light is Debian's
 package (apt-get install hol-light libnum-ocaml-dev), loaded up to class.ml. Where it is not installed, only our figures are printed.
 
 Needs Python 3.8 and Linux, and nothing else.
@@ -48,7 +49,7 @@ let seconds times g =
   let before = Sys.time() in
   for i = 1 to times do ignore (g ()) done;
   Sys.time() -. before;;
-let rec enough times g = let spent = seconds times g in if spent > 0.1 then int_of_float (0.2 *. float times /. spent) else enough (times * 2) g;;
+let rec enough times g = let spent = seconds times g in if spent > 0.1 then int_of_float (0.1 *. float times /. spent) else enough (times * 2) g;;
 let jobs = Hashtbl.create 100;;
 let keep height name g = Hashtbl.add jobs (name,height) (g,enough 100 g);;
 let turn name height = let g,times = Hashtbl.find jobs (name,height) in Printf.printf "rate %.0f\\n%!" (float times /. seconds times g);;
@@ -161,28 +162,26 @@ RENAMED = {"COND": "CONDITION"}
 
 
 class Pair:
-    """The rounds of one row: what each side did in a second, or the seconds that it took."""
+    """The rounds of one row: what each side did in a second, or the seconds that it took; and which of several is the best."""
 
-    def __init__(self):
-        self.ours, self.theirs = [], []
+    def __init__(self, best):
+        self.ours, self.theirs, self.best = [], [], best
 
     def our(self):
-        return statistics.median(self.ours)
+        return self.best(self.ours)
 
     def their(self):
-        return statistics.median(self.theirs)
-
-    def ratio(self):
-        """How many times their rate ours is."""
-        return statistics.median(our / their for our, their in zip(self.ours, self.theirs))
+        return self.best(self.theirs)
 
     def times(self):
-        """How many times our seconds theirs are."""
-        return statistics.median(their / our for our, their in zip(self.ours, self.theirs))
+        """How many times as fast as they we are, by the best round of each side and by the median of the rounds."""
+        ratios = [our / their for our, their in ((self.our(), self.their()), *zip(self.ours, self.theirs))]
+        first, *rounds = ratios if self.best is max else [1 / ratio for ratio in ratios]
+        return f"{first:8.2f}{statistics.median(rounds):8.2f}"
 
 
 class Jobs:
-    """Rules that HOL Light and hol_bench do on request, each for a fifth of a second."""
+    """Rules that HOL Light and hol_bench do on request, each for a tenth of a second."""
 
     def __init__(self, program, light, script, function, heights):
         self.program, self.light, self.times = program, light, {}
@@ -194,16 +193,16 @@ class Jobs:
         return float(re.search(r"^rate (\d+)$", self.light.ask(f'turn "{rule}" {height};;'), re.M)[1])
 
     def ours(self, rule, height, times):
-        """Our rate; `times` is how often to do it at first, until it is known how often a fifth of a second takes."""
+        """Our rate; `times` is how often to do it at first, until it is known how often a tenth of a second takes."""
         if (rule, height) not in self.times:
             times = enough(self.program, rule, height, times)
-            self.times[rule, height] = max(1, int(0.2 * times / processor_seconds(self.program, rule, height, times)[0]))
+            self.times[rule, height] = max(1, int(0.1 * times / processor_seconds(self.program, rule, height, times)[0]))
         times = self.times[rule, height]
         return times / max(processor_seconds(self.program, rule, height, times)[0] - processor_seconds(self.program, rule, height, 0)[0], 1e-6)
 
     def pair(self, rule, height, times, rounds):
         """The rates of both sides in turn."""
-        found = Pair()
+        found = Pair(max)
         for _ in range(rounds):
             if self.light:
                 found.theirs.append(self.theirs(rule, height))
@@ -221,13 +220,13 @@ def line_of(rule, height, pair):
     """A row of a table of rates."""
     line = f"{rule:12}{height * 5 + 2:7}" + (f"{pair.our():14,.0f}" if pair.ours else " " * 14)
     if pair.theirs:
-        line += f"{pair.their():14,.0f}" + (f"{pair.ratio():8.2f}" if pair.ours else "")
+        line += f"{pair.their():14,.0f}" + (pair.times() if pair.ours else "")
     return line
 
 
 def kernel_part(program, rounds):
     jobs = Jobs(program, started(), "", "each_kernel_rule", HEIGHTS)
-    print(f"{'rule':12}{'nodes':>7}{'a second':>14}{'HOL Light':>14}{'ratio':>8}")
+    print(f"{'rule':12}{'nodes':>7}{'a second':>14}{'HOL Light':>14}{'times':>8}{'median':>8}")
     for rule in RULES:
         for height, times in HEIGHTS:
             print(line_of(rule, height, jobs.pair(rule, height, times, rounds)), flush=True)
@@ -264,27 +263,27 @@ def their_steps():
 
 def derived_part(program, rounds):
     jobs, steps = Jobs(program, started(), DERIVED + TIMED, "each_derived_rule", DERIVED_HEIGHTS), their_steps()
-    print(f"{'rule':12}{'nodes':>7}{'a second':>14}{'HOL Light':>14}{'ratio':>8}{'its steps':>11}")
+    print(f"{'rule':12}{'nodes':>7}{'a second':>14}{'HOL Light':>14}{'times':>8}{'median':>8}{'its steps':>11}")
     for rule in DERIVED_RULES:
         for height, times in DERIVED_HEIGHTS:
             line = line_of(rule, height, jobs.pair(rule, height, times, rounds))
-            print(f"{line:55}{steps[rule]:11}" if steps else line, flush=True)
+            print(f"{line:63}{steps[rule]:11}" if steps else line, flush=True)
 
 
 def rules_part(program, rounds):
     least = DERIVED_HEIGHTS[:1]
     jobs = Jobs(None, started(), DERIVED + TIMED, "each_derived_rule", least)
-    print(f"{'rules':24}{'ours in a qed':>16}{'HOL Light':>12}{'times':>8}")
+    print(f"{'rules':24}{'ours in a qed':>16}{'HOL Light':>12}{'times':>8}{'median':>8}")
     for rules, job in QED_JOBS.items():
-        pair = Pair()
-        for _ in range(rounds):
+        pair = Pair(min)
+        for _ in range(max(1, rounds // 4)):
             if jobs.light:
                 pair.theirs.append(sum(1 / jobs.theirs(rule, least[0][0]) for rule in rules))
             if program:
                 pair.ours.append(round_seconds(program, job))
         line = f"{' and '.join(rules):24}" + (f"{1e6 * pair.our():13.2f} us" if program else " " * 16)
         line += f"{1e6 * pair.their():9.2f} us" if jobs.light else ""
-        print(line + (f"{pair.times():8.2f}" if program and jobs.light else ""), flush=True)
+        print(line + (pair.times() if program and jobs.light else ""), flush=True)
 
 
 def quoted(text):
@@ -345,8 +344,8 @@ def our_theories(program, last):
 
 
 def theories_part(program, rounds):
-    calls, whole = ({name: Pair() for name in EXAMPLES} for _ in range(2))
-    for _ in range(rounds):
+    calls, whole = ({name: Pair(min) for name in EXAMPLES} for _ in range(2))
+    for _ in range(max(1, rounds // 4)):
         light = started()
         if light:
             light.ask(THEORIES)
@@ -360,11 +359,11 @@ def theories_part(program, rounds):
                 whole[name].ours.append(seconds)
         if light:
             light.close()
-    print(f"{'theories up to':16}{'ours, s':>10}{'calls, s':>10}{'times':>8}{'toplevel, s':>13}{'times':>8}")
+    print(f"{'theories up to':16}{'ours, s':>10}{'calls, s':>10}{'times':>8}{'median':>8}{'toplevel, s':>13}{'times':>8}{'median':>8}")
     for name in EXAMPLES:
         line = f"{name:16}" + (f"{whole[name].our():10.4f}" if program else " " * 10)
         for pair, width in ((calls[name], 10), (whole[name], 13)):
-            line += (f"{pair.their():{width}.3f}" if pair.theirs else "") + (f"{pair.times():8.1f}" if pair.theirs and program else " " * 8)
+            line += (f"{pair.their():{width}.3f}" if pair.theirs else "") + (pair.times() if pair.theirs and program else " " * 16)
         print(line, flush=True)
 
 
@@ -419,7 +418,7 @@ def main():
     parser = argparse.ArgumentParser(description=__doc__, formatter_class=argparse.RawDescriptionHelpFormatter)
     parser.add_argument("--program", help="the built hol_bench")
     parser.add_argument("--serve", help="the built hol_serve")
-    parser.add_argument("--rounds", type=int, default=9)
+    parser.add_argument("--rounds", type=int, default=28)
     parser.add_argument("--only", default="", help="kernel, derived, rules, theories or library")
     parser.add_argument("--processor", type=int, help="the processor on which both sides run")
     given = parser.parse_args()
