@@ -1,6 +1,6 @@
 #!/bin/bash
 # mc.sh CRATE ROOM FUNCTION.. : mix_check, told in short
-nice -n 19 python3 /work/w/kw/kept-work/session42/mix_check.py /work/w/t "$@" > /work/w/mc.$1.out 2>&1
+nice -n 19 python3 /work/w/kw/kept-work/session43/mix_check.py /work/w/t "$@" > /work/w/mc.$1.out 2>&1
 python3 - /work/w/mc.$1.out "$@" <<'P'
 import sys,re
 out=open(sys.argv[1]).read(); crate=sys.argv[2]; fs=[f for f in sys.argv[4:] if not f.startswith("--")]
