@@ -210,6 +210,10 @@ class Jobs:
                 found.ours.append(self.ours(rule, height, times))
         return found
 
+    def close(self):
+        if self.light:
+            self.light.close()
+
 
 def started(more=None):
     """HOL Light, where it is installed."""
@@ -230,6 +234,7 @@ def kernel_part(program, rounds):
     for rule in RULES:
         for height, times in HEIGHTS:
             print(line_of(rule, height, jobs.pair(rule, height, times, rounds)), flush=True)
+    jobs.close()
 
 
 def is_made(reply):
@@ -268,6 +273,7 @@ def derived_part(program, rounds):
         for height, times in DERIVED_HEIGHTS:
             line = line_of(rule, height, jobs.pair(rule, height, times, rounds))
             print(f"{line:63}{steps[rule]:11}" if steps else line, flush=True)
+    jobs.close()
 
 
 def rules_part(program, rounds):
@@ -284,6 +290,7 @@ def rules_part(program, rounds):
         line = f"{' and '.join(rules):24}" + (f"{1e6 * pair.our():13.2f} us" if program else " " * 16)
         line += f"{1e6 * pair.their():9.2f} us" if jobs.light else ""
         print(line + (pair.times() if program and jobs.light else ""), flush=True)
+    jobs.close()
 
 
 def quoted(text):
