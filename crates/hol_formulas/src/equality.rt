@@ -83,13 +83,31 @@ impl Equality {
 
     /// `left = right`, for two terms of its type. No types are compared.
     #[tactic(auto, using(crate::proofs::Signs::half_type, crate::proofs::Signs::whole_type))]
+    #[inline(always)]
     pub fn between(&self, alloc: Global, left: &Term, right: &Term) -> Result<Term, AllocError>
         requires left { named_type left.now ≡ Some self.now }
         requires right { named_type right.now ≡ Some self.now }
         ensures is { IfOk result (λ t. t ≡ mk_eq self.now left.now right.now) }
         ensures typed { IfOk result (λ t. named_type t ≡ Some bool_type) }
     {
-        let applied = Term::application_to(alloc, self.sign(), left, self.property())?;
-        Term::application_to(alloc, &applied, right, self.truth())
+        let (Ok(sign), Ok(first), Ok(property)) = (
+            self.sign().copy(),
+            left.copy(),
+            self.property().copy(),
+        ) else {
+            return Err(no_memory());
+        };
+        let half = Term::application_of(alloc, sign, first, property)?;
+        let (Ok(second), Ok(truth)) = (right.copy(), self.truth().copy()) else {
+            return Err(no_memory());
+        };
+        Term::application_of(alloc, half, second, truth)
     }
+}
+
+// The error of memory. It is a call, marked as one that hardly happens: so the compiler keeps the way on in one piece.
+#[cold]
+#[inline(never)]
+fn no_memory() -> AllocError {
+    AllocError
 }

@@ -116,6 +116,24 @@ impl Basis {
         if let Some(made) = self.equation_by_kept(alloc, ty, left, right)? {
             return Ok(made);
         }
+        self.equation_by_new(alloc, ty, left, right)
+    }
+
+    // `left = right` by an `=` that is made for it, and kept.
+    #[cold]
+    #[inline(never)]
+    fn equation_by_new(
+        &self,
+        alloc: Global,
+        ty: &Ty,
+        left: &Term,
+        right: &Term,
+    ) -> Result<Term, AllocError>
+        requires left { named_type left.now ≡ Some ty.now }
+        requires right { named_type right.now ≡ Some ty.now }
+        ensures is { IfOk result (λ t. t ≡ mk_eq ty.now left.now right.now) }
+        ensures typed { IfOk result (λ t. named_type t ≡ Some bool_type) }
+    {
         let equality = Equality::at(alloc, ty)?;
         let made = equality.between(alloc, left, right)?;
         let _ = self.kept_at(ty).try_replace(Some(equality));
@@ -202,11 +220,14 @@ impl Basis {
     /// Whether the term is well typed over the prelude and the items.
     ///
     /// Parts with types and constants of the prelude alone are passed over.
-    #[tactic(auto, using(crate::proofs::Typed::typed_named))]
+    #[tactic(auto, using(crate::proofs::Typed::typed_named, crate::proofs::Basic::basic_knows))]
     pub fn is_typed(&self, alloc: Global, term: &Term) -> Result<bool, AllocError>
         ensures { IfOk result (λ is. is ≡ is_typed self.now (nameless [] term.now)) }
     {
         let _ty = term.type_of();
+        if term.is_basic() {
+            return Ok(true);
+        }
         self.knows(alloc, term)
     }
 

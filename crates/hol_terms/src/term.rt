@@ -158,17 +158,31 @@ impl Term {
         requires { named_type (comb f.now x.now) ≡ Some range.now }
         ensures { IfOk result (λ t. t ≡ comb f.now x.now) }
     {
-        let node = TermNode::Comb(f.copy()?, x.copy()?);
+        Term::application_of(alloc, f.copy()?, x.copy()?, range.copy()?)
+    }
+
+    /// [`Term::application_to`] of terms and a type that are handed over: nothing is copied.
+    #[inline(always)]
+    pub fn application_of(alloc: Global, f: Term, x: Term, range: Ty) -> Result<Term, AllocError>
+        requires { named_type (comb f x) ≡ Some range }
+        ensures { IfOk result (λ t. t ≡ comb f x) }
+    {
+        let filter = f.filter().union(x.filter());
+        let type_filter = f.type_filter().union(x.type_filter());
+        let constants = f.constants().union(x.constants());
+        let size = (1 + f.size() + x.size()).min(LARGEST_SIZE);
+        let basic = f.is_basic() && x.is_basic();
+        let node = TermNode::Comb(f, x);
         let mark = Mark::about(&node);
         let shared = TermShared {
             node,
-            ty: range.copy()?,
-            filter: f.filter().union(x.filter()),
-            type_filter: f.type_filter().union(x.type_filter()),
-            constants: f.constants().union(x.constants()),
-            size: (1 + f.size() + x.size()).min(LARGEST_SIZE),
+            ty: range,
+            filter,
+            type_filter,
+            constants,
+            size,
             mark,
-            basic: f.is_basic() && x.is_basic(),
+            basic,
         };
         match Rc::new(alloc, shared) {
             Ok(shared) => Ok(Term { shared }),
