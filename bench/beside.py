@@ -3,7 +3,7 @@
 
     python3 bench/beside.py [--program PATH] [--serve PATH] [--rounds N] [--only PART] [--processor N]
 
---program is the built program crates/hol_bench/out/hol_bench, and --serve crates/hol_serve/out/hol_serve. What isn't given is left out. Parts:
+--program is the built program OUT/hol_bench (bench/programs.py), and --serve crates/hol_serve/out/hol_serve. What isn't given is left out. Parts:
 
   kernel    by hol_bench: how many of each rule of the kernel are done in a second. The work is the same in both: towers `f (f .. x)` of so many applications of 5 nodes each, and
             the theorem `t = t` of them

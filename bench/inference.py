@@ -3,7 +3,7 @@
 
     python3 bench/inference.py --program PATH [--rounds N] [--seconds N]
 
-PATH is the built program, crates/hol_bench/out/hol_bench. Each job is done at a quarter of its size and at its whole size:
+PATH is the built program, OUT/hol_bench (bench/programs.py). Each job is done at a quarter of its size and at its whole size:
 
   itself     c of the type A0->..->A1999->bool, applied to itself 4,080 times
   argument   the same c as each of 4,080 arguments of a variable

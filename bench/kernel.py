@@ -3,7 +3,7 @@
 
     python3 bench/kernel.py --program PATH [--rounds N] [--only PREFIX]
 
-PATH is the built program, crates/hol_bench/out/hol_bench. Its jobs:
+PATH is the built program, OUT/hol_bench (bench/programs.py). Its jobs:
 
   refl, trans, mk_comb, beta, inst, inst_type
             a rule over the basis without items, on a term of so many applications, of 5 nodes each

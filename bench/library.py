@@ -1,21 +1,24 @@
 #!/usr/bin/env python3
-"""The library of theories beside HOL Light's: which theorems of theories/ say what HOL Light's of the same name say. And what the library costs.
+"""The library of theories beside HOL Light's: which names of HOL Light's files stand in theories/, and which of these say the same. And what the library costs.
 
-    python3 bench/library.py [--last FILE] [--all]
+    python3 bench/library.py [--record FILE] [--all] [--write]
     python3 bench/library.py --program PATH [--rounds N]
 
-The first needs HOL Light (Debian: apt-get install hol-light libnum-ocaml-dev), which is loaded up to FILE in some minutes; each statement that it has under
-one of our names is taken from its kernel's term. Both are compared as trees without types and without the names of bound and free variables, after the names
-of theories/README.md. It prints how many of our names are theorems there, how many of these are equal, how many are so but for their outer quantifiers, and
-the others with both statements (with --all those that differ by outer quantifiers too). The status is 1 where fewer than 200 are equal.
+The first needs HOL Light (Debian: apt-get install hol-light libnum-ocaml-dev), which is loaded with the files of FILES in some minutes. Each theorem that a
+file of it names is looked up in theories/; where the name stands, HOL Light's own parser reads our statement, with our names of constants, and its `aconv`
+compares it with the theorem, free variables quantified outside and type variables numbered. HOL Light's sets {x | p} and functions of pairs are first
+written as theories/README.md says. With --record the theorems are those of a recorded run, as `holls import` makes one (docs/EDITORS.md), which takes
+seconds: there the terms are compared, with their types, as holls.exchange.neutral translates HOL Light's. It prints a table by file, and with --all the
+statements that differ; --write puts the table into theories/README.md. The status is 1 where a statement differs that isn't in ALLOWED.
 
 The second measures the program PATH, crates/hol_serve/out/hol_serve: the library from nothing, and a change of a step in the middle of logic.hol whose
 theorem stays.
 
-Needs Python 3.8 and Linux, and nothing else.
+Needs Python 3.9 and Linux, and nothing else.
 """
 
 import argparse
+import dataclasses
 import os
 import pathlib
 import re
@@ -29,193 +32,276 @@ from hol_light import ROOT as HOL_LIGHT
 
 ROOT = pathlib.Path(__file__).resolve().parents[1]
 sys.path.insert(0, str(ROOT / "clients"))
-from holls.terms import Unreadable, read  # noqa: E402 (clients/holls)
-from holls.text import cut  # noqa: E402 (clients/holls)
+from holls import checking  # noqa: E402 (clients/holls)
+from holls.check import ordered, sent  # noqa: E402 (clients/holls)
+from holls.exchange import neutral  # noqa: E402 (clients/holls)
+from holls.exchange.ocaml import spaced, string  # noqa: E402 (clients/holls)
+from holls.exchange.recording import names  # noqa: E402 (clients/holls)
+from holls.manual import PRELUDE  # noqa: E402 (clients/holls)
+from holls.prover import typed  # noqa: E402 (clients/holls)
+from holls.prover.scope import Scope  # noqa: E402 (clients/holls)
 
-WANTED = 200
-STAGES = ("pair.ml", "wf.ml", "lists.ml", "sets.ml", "define.ml", "Library/rstc.ml")
-"""Behind these files of HOL Light our names are asked for; the last one isn't among those that hol.ml loads."""
-NAMES = {",": "pair", "+": "add", "*": "mult", "-": "sub", "<=": "le", "<": "lt", "[]": "NIL"}
-"""HOL Light's names of constants that have others here."""
-BINDERS = ("!", "?", "?!", "@")
-GIVEN = frozenset((*BINDERS, "=", "==>", "/\\", "\\/", "~", "T", "F", "ONE_ONE", "ONTO"))
-"""The constants of the prelude."""
+FILES = (
+    "theorems.ml", "class.ml", "trivia.ml", "pair.ml", "nums.ml", "arith.ml", "wf.ml", "ind_types.ml", "lists.ml", "int.ml", "sets.ml", "iterate.ml",
+    "Library/rstc.ml", "Library/prime.ml", "Library/binomial.ml", "Library/permutations.ml")
+"""The files of HOL Light in the table; of int.ml what is about num alone. The last four aren't among those that hol.ml loads."""
+NAMES = {
+    "pair": ",", "add": "+", "mult": "*", "sub": "-", "le": "<=", "lt": "<", "GE": ">=", "GT": ">", "numseg": "..", "cong": "==", "divides": "num_divides",
+    "coprime": "num_coprime", "gcd": "num_gcd", "lcm": "num_lcm", "le_c": "<=_c", "lt_c": "<_c", "ge_c": ">=_c", "gt_c": ">_c", "eq_c": "=_c",
+}
+"""Our names of constants that HOL Light calls otherwise."""
+ALLOWED = frozenset()
+"""Names whose statements may differ."""
+ABOUT_OTHERS = ("real", "int", "hreal", "nadd", "treal", "complex", "cart", "finite_image", "word")
+"""Types that the library doesn't have: a theorem about them is counted in no row."""
+BEGIN, END = "<!-- Made by bench/library.py --write, from here -->", "<!-- to here. -->"
 SCRIPT = r"""
-let rec put env tm = match tm with
-    Var(n,_) -> (try Printf.printf " #%d" (index tm env) with Failure _ -> Printf.printf " $%s" n)
-  | Const(n,_) -> Printf.printf " '%s" n
-  | Comb(f,x) -> Printf.printf " &"; put env f; put env x
-  | Abs(v,b) -> Printf.printf " \\"; put (v::env) b;;
-let show name th =
-  let c = concl th in
-  Printf.printf "\nTREE %s" name; put [] c;
-  Printf.printf "\nTEXT %s %s\n%!" name (String.map (fun c -> if c = '\n' then ' ' else c) (string_of_term c));;
+let kept = ref ([] : (string * string * thm) list);;
+let keep file name th = kept := (file,name,th) :: !kept;;
+"""
+COMPARING = r"""
+let rec plain tm = match tm with
+    Comb(Const("GSPEC",_),Abs(v,body)) -> plain_set v (plain body)
+  | Comb(Const("GABS",_),Abs(f,body)) -> (try plain_function f (plain body) with Failure _ -> mk_comb(rator tm,plain (rand tm)))
+  | Comb(f,x) -> mk_comb(plain f,plain x)
+  | Abs(v,body) -> mk_abs(v,plain body)
+  | _ -> tm
+and plain_set v body =
+  let xs,inside = strip_exists body in
+  match inside with
+    Comb(Comb(Comb(Const("SETSPEC",_),w),p),t) when w = v ->
+      if xs = [t] then mk_abs(t,p) else mk_abs(v,list_mk_exists(xs,mk_conj(p,mk_eq(v,t))))
+  | _ -> failwith "plain_set"
+and plain_function f body =
+  let xs,inside = strip_forall body in
+  match inside with
+    Comb(Comb(Const("GEQ",_),Comb(g,pattern)),t) when g = f -> uncurried pattern t
+  | _ -> failwith "plain_function"
+and uncurried pattern t = match pattern with
+    Comb(Comb(Const(",",_),x),y) when is_var x ->
+      let inner = mk_abs(x,(if is_var y then mk_abs(y,t) else uncurried y t)) in
+      mk_icomb(mk_const("UNCURRY",[]),inner)
+  | _ -> failwith "uncurried";;
+let closed tm = list_mk_forall(frees tm,tm);;
+let numbered tm =
+  let rec of_type ty found = match ty with Tyvar _ -> if mem ty found then found else found @ [ty] | Tyapp(_,l) -> List.fold_left (fun a b -> of_type b a) found l in
+  let rec of_term tm found = match tm with
+      Var(_,ty) | Const(_,ty) -> of_type ty found | Comb(f,x) -> of_term x (of_term f found) | Abs(v,b) -> of_term b (of_term v found) in
+  let tyvars = of_term tm [] in
+  inst (List.mapi (fun i ty -> mk_vartype ("T" ^ string_of_int i),ty) tyvars) tm;;
+new_constant("UNCURRY",`:(A->B->C)->A#B->C`);;
+new_type_abbrev("one",`:1`);;
+List.iter (fun (s,_) -> if not (mem s ["<=>";"==>";"\\/";"/\\";"="]) then unparse_as_infix s) (infixes());;
+List.iter (fun s -> if not (mem s ["\\";"!";"?";"?!";"@"]) then unparse_as_binder s) (binders());;
+List.iter (fun s -> if s <> "~" then unparse_as_prefix s) (prefixes());;
+the_overload_skeletons := [];;
+the_interface := filter (fun (n,_) -> n = "<=>") !the_interface;;
+let called (ours,theirs) = the_interface := (ours,(theirs,get_const_type theirs)) :: !the_interface;;
+let compare_all ours =
+  List.iter (fun (file,name,th) ->
+    if hyp th = [] then
+      let their = concl th in
+      let told = (match (try Some(assoc name ours) with Failure _ -> None) with
+          None -> "missing"
+        | Some text ->
+          (try if aconv (numbered (closed (parse_term text))) (numbered (closed (plain their))) then "same" else "differs"
+           with Failure why -> "unread " ^ String.map (fun c -> if c = '\n' then ' ' else c) why | _ -> "unread")) in
+      let rec types ty = match ty with Tyapp(n,l) -> n :: List.concat (map types l) | _ -> [] in
+      let rec of_term tm = match tm with Var(_,ty) | Const(_,ty) -> types ty | Comb(f,x) -> of_term f @ of_term x | Abs(v,b) -> of_term v @ of_term b in
+      Printf.printf "\nNAMED %s %s %s %s\n%!" file name (String.concat "," (setify (of_term their))) told) (rev !kept);;
 """
 
 
 class Theories:
-    """The files of theories/ in the order of their imports: their commands, statements by name, and constants."""
+    """The files of theories/ in the order of their imports: their commands, and statements by name."""
 
     def __init__(self):
-        found = {path.stem: cut(path.read_text(encoding="utf-8")).commands for path in (ROOT / "theories").glob("*.hol")}
-        self.files = []
-        while found:
-            name = next(name for name in sorted(found) if not any(c.word == "import" and c.name in found for c in found[name]))
-            self.files.append((name, [command.text for command in found.pop(name)]))
-        self.statements, self.constants = {}, set(GIVEN)
+        self.files = list(sent([str(ROOT / "theories")]).items())
+        self.statements = dict(PRELUDE)
         for _, texts in self.files:
             for text in texts:
                 self.take(text)
 
     def take(self, text):
-        """What a command states and which constants it makes."""
-        word, *names = re.sub(r"`.*", "", text, flags=re.S).split()
+        """What a command states."""
+        word, *names_of = re.sub(r"`.*", "", text, flags=re.S).split()
         if word in ("g", "new_definition"):
             statement = text[text.index("`") + 1:text.rindex("`")]
-            self.statements[names[0]] = " ".join(statement.split())
-            if word == "new_definition":
-                self.constants.add(re.match(r"[A-Za-z0-9_']+", statement.strip()).group())
-        elif word == "new_basic_type_definition":
-            self.constants |= set(names[1:3])
-        elif word == "new_constant":
-            self.constants.add(names[0])
+            self.statements[names_of[0]] = " ".join(statement.split())
 
 
-def untyped(statement):
-    """A statement without its types."""
-    kept, at = "", 0
-    for found in re.finditer(":", statement):
-        if found.start() >= at:
-            kept += statement[at:found.start()]
-            at = behind_type(statement, found.end())
-    return kept + statement[at:]
+@dataclasses.dataclass
+class Row:
+    """Of a file of HOL Light: how many names of theorems it has, and those that stand here, by how they compare."""
+
+    names: int = 0
+    same: list = dataclasses.field(default_factory=list)
+    differs: list = dataclasses.field(default_factory=list)
+
+    def line(self, file):
+        stand = len(self.same) + len(self.differs)
+        return f"| {file} | {self.names} | {stand} | {len(self.same)} | {len(self.differs)} | {self.names - stand} |"
 
 
-def behind_type(text, at):
-    """Where the type ends that begins at a place."""
-    if text[at] == "(":
-        depth = 1
-        while depth:
-            at += 1
-            depth += (text[at] == "(") - (text[at] == ")")
-        at += 1
-    at = re.compile(r"[A-Za-z0-9_']*(\s+(list|option)\b)*").match(text, at).end()
-    arrow = re.compile(r"\s*->\s*").match(text, at)
-    return behind_type(text, arrow.end()) if arrow else at
+def readable(statement):
+    """Our statement as HOL Light reads it, but for the names of constants."""
+    text = spaced(statement, ("list", "option"))
+    while True:
+        shorter = re.sub(r"\( BIT([01]) (\d+) \)|(?<![\w'])BIT([01]) (\d+)(?![\w'])", numeral, re.sub(r"(?<![\w'])_([01])(?![\w'])", r"\1", text))
+        if shorter == text:
+            return text
+        text = shorter
 
 
-def their_tree(tokens):
-    """HOL Light's term from its tokens in prefix form, as clients/holls/terms.py has trees, but ("free", name) for a free variable."""
-    token = next(tokens)
-    if token == "&":
-        function, argument = their_tree(tokens), their_tree(tokens)
-        if function in BINDERS and isinstance(argument, tuple) and argument[0] == "\\":
-            return function, argument[1]
-        if function == "NUMERAL":
-            return f"_{numeral(argument)}"
-        return "app", function, argument
-    if token == "\\":
-        return "\\", their_tree(tokens)
-    if token[0] == "#":
-        return int(token[1:])
-    return ("free", token[1:]) if token[0] == "$" else NAMES.get(token[1:], token[1:])
+def numeral(found):
+    """A numeral with one digit more, in decimals: HOL Light reads these."""
+    digit, rest = (found.group(1), found.group(2)) if found.group(1) else (found.group(3), found.group(4))
+    return str(2 * int(rest) + int(digit))
 
 
-def numeral(tree):
-    """The number of HOL Light's binary digits."""
-    return 0 if tree == "_0" else 2 * numeral(tree[2]) + (tree[1] == "BIT1")
-
-
-def our_tree(tree, constants):
-    """The tree of one of our statements, with free variables as in `their_tree`."""
-    if isinstance(tree, str):
-        return tree if tree in constants else ("free", tree)
-    return tree if isinstance(tree, int) else (tree[0], *(our_tree(part, constants) for part in tree[1:]))
-
-
-def numbered(tree, names, depth=0):
-    """The tree with numbers for free variables, and for those of quantifiers that were taken off, by their first places."""
-    if isinstance(tree, int):
-        return tree if tree < depth else ("free", names.setdefault(tree - depth, len(names)))
-    if isinstance(tree, str):
-        return tree
-    if tree[0] == "free":
-        return "free", names.setdefault(tree[1], len(names))
-    if tree[0] == "app":
-        return "app", numbered(tree[1], names, depth), numbered(tree[2], names, depth)
-    return tree[0], numbered(tree[1], names, depth + 1)
-
-
-def opened(tree):
-    """The tree without its outer `!`."""
-    while isinstance(tree, tuple) and tree[0] == "!":
-        tree = tree[1]
-    return tree
-
-
-def script(names, last):
-    """The lines that load HOL Light up to a file, and those that ask for the names behind each stage: what goes before the first, and the rest."""
-    asked = SCRIPT + "".join(f'show "{name}" {name};;\n' for name in names)
+def script(theories):
+    """The lines that load HOL Light, keep the theorems of each file, and compare them with ours at the end: what goes before the first, and the rest."""
     first, rest = [], []
     for line in pathlib.Path(HOL_LIGHT, "hol.ml").read_text(encoding="utf-8").splitlines(keepends=True):
         (rest if rest else first).append(line)
         loaded = re.match(r'loads "(.*)";;', line)
-        if loaded and loaded.group(1) in STAGES:
-            rest.append(asked)
-        if loaded and loaded.group(1) == last:
-            return "".join(first), "".join(rest)
-    return "".join(first), "".join(rest) + f'loads "{last}";;\n' + asked
+        if loaded and loaded.group(1) == "equal.ml":
+            rest.append(SCRIPT)
+        if loaded and loaded.group(1) in FILES:
+            rest += kept(loaded.group(1))
+        if loaded and loaded.group(1) == "define.ml":
+            break
+    for file in FILES:
+        if file.startswith("Library/"):
+            rest += [f'loadt "{file}";;\n', *kept(file)]
+    ours = ";\n".join(f"{string(name)},{string(readable(text))}" for name, text in theories.statements.items())
+    called = "".join(f"called ({string(our)},{string(their)});;\n" for our, their in NAMES.items())
+    return "".join(first), "".join(rest) + COMPARING + called + f"compare_all [{ours}];;\n"
 
 
-def hol_light(names, last):
-    """HOL Light's theorems of these names, as (tree, text)."""
-    before, rest = script(names, last)
+def kept(file):
+    """The lines that keep a file's theorems; those names that are something else are refused there."""
+    text = pathlib.Path(HOL_LIGHT, file).read_text(encoding="latin-1")
+    return [f'keep "{file}" "{name}" {name};;\n' for name in dict.fromkeys(names(text))]
+
+
+def hol_light(theories):
+    """What HOL Light prints when it has compared all."""
+    before, rest = script(theories)
     with tempfile.TemporaryDirectory() as room:
         pathlib.Path(room, "init.ml").write_text(before, encoding="utf-8")
         done = subprocess.run([f"{HOL_LIGHT}/ocaml", "-noprompt", "-init", f"{room}/init.ml"], input=rest, stdout=subprocess.PIPE,
-                              stderr=subprocess.STDOUT, text=True, check=False)
-    return theirs(done.stdout)
+                              stderr=subprocess.STDOUT, encoding="utf-8", errors="replace", check=False)
+    return done.stdout
 
 
-def theirs(output):
-    """The theorems that HOL Light has printed, as (tree, text) by name."""
-    texts = dict(re.findall(r"^TEXT (\S+) (.*)$", output, re.M))
-    return {name: (their_tree(iter(tokens.split())), " ".join(texts.get(name, "").split())) for name, tokens in re.findall(r"^TREE (\S+) (.*)$", output, re.M)}
+def told_by_hol_light(theories):
+    """Of each theorem that HOL Light names: its file, its name, the types in it, and how our statement compares."""
+    output = hol_light(theories)
+    return [(file, name, types.split(","), told) for file, name, types, told in re.findall(r"^NAMED (\S+) (\S+) (\S*) (.*)$", output, re.M)]
 
 
-def kind(ours, their):
-    """How two trees compare: `equal`, `quantifiers` or `other`."""
-    if numbered(ours, {}) == numbered(their, {}):
-        return "equal"
-    return "quantifiers" if numbered(opened(ours), {}) == numbered(opened(their), {}) else "other"
+def told_by_record(path):
+    """The same of a recorded run."""
+    sys.setrecursionlimit(20_000)
+    with open(path, encoding="latin-1") as lines:
+        record = neutral.read(lines)
+    translator, scope, told = neutral.Translator(record), Scope(), []
+    for unit in checking.units(ordered([str(ROOT / "theories")])):
+        scope.add_file(unit.file)
+    for name, (number, file) in record.names.items():
+        theorem = record.theorems[number]
+        if file not in FILES or theorem.hypotheses:
+            continue
+        try:
+            term = translator.term(theorem.conclusion)
+        except neutral.Untranslatable as error:
+            told.append((file, name, (), f"unread {error}" if name in scope.theorems else "missing"))
+            continue
+        is_same = name in scope.theorems and numbered(closed(scope.theorems[name])) == numbered(closed(term))
+        told.append((file, name, constructors(term), "same" if is_same else "differs" if name in scope.theorems else "missing"))
+    return told
 
 
-def compared(theories, found):
-    """The names by how they compare."""
-    kinds = {"equal": [], "quantifiers": [], "other": []}
-    for name, statement in theories.statements.items():
-        if name in found:
-            try:
-                ours = our_tree(read(untyped(statement)), theories.constants)
-            except Unreadable as error:
-                sys.exit(f"library: {name}: {error}")
-            kinds[kind(ours, found[name][0])].append(name)
-    return kinds
+def constructors(term):
+    """The names of the type constructors in a term."""
+    found, waiting = set(), [part[2] for part in typed.subterms(term) if part[0] in "vcl"]
+    while waiting:
+        ty = waiting.pop()
+        if isinstance(ty, tuple):
+            found.add(ty[0])
+            waiting += ty[1:]
+    return found
 
 
-def compare(theories, last, all_of_them):
-    """Prints the comparison, and says whether enough are equal."""
-    if not os.path.exists(f"{HOL_LIGHT}/hol.ml"):
+def closed(term):
+    """A term for all of its free variables, in the order in which they stand there."""
+    variables = dict.fromkeys(part for part in typed.subterms(term) if part[0] == "v")
+    for variable in reversed(variables):
+        quantifier = ("c", "!", typed.fun(typed.fun(variable[2], typed.BOOL), typed.BOOL))
+        term = ("a", quantifier, typed.abstract(variable, term))
+    return term
+
+
+def numbered(term):
+    """A term with numbers for its type variables, by their first places."""
+    numbers = {}
+
+    def type_of(ty):
+        if isinstance(ty, str):
+            return numbers.setdefault(ty, len(numbers))
+        return (ty[0], *map(type_of, ty[1:]))
+
+    def put(part):
+        if part[0] in "vc":
+            return part[0], part[1], type_of(part[2])
+        if part[0] == "a":
+            return "a", put(part[1]), put(part[2])
+        return ("l", type_of(part[2]), put(part[3])) if part[0] == "l" else part
+
+    return put(term)
+
+
+def rows(told_of_all):
+    """The table's rows by file, and the names that differ or that can't be read, with what is told of them."""
+    found, others = {file: Row() for file in FILES}, {}
+    for file, name, types, told in told_of_all:
+        if set(types) & set(ABOUT_OTHERS):
+            continue
+        row = found[file]
+        row.names += 1
+        if told == "same":
+            row.same.append(name)
+        elif told != "missing":
+            row.differs.append(name)
+            others[name] = told
+    return found, others
+
+
+def table(found):
+    lines = ["| HOL Light | names | stand here | identical | differing | missing |", "|---|---:|---:|---:|---:|---:|"]
+    lines += [row.line(file) for file, row in found.items()]
+    total = Row(sum(row.names for row in found.values()), [name for row in found.values() for name in row.same],
+                [name for row in found.values() for name in row.differs])
+    return "\n".join([*lines, total.line("together")])
+
+
+def compare(theories, record, is_all, is_written):
+    """Prints the comparison, and says whether no statement differs but those that may."""
+    if not record and not os.path.exists(f"{HOL_LIGHT}/hol.ml"):
         sys.exit("library: HOL Light is not installed (Debian: apt-get install hol-light libnum-ocaml-dev)")
-    found = hol_light(theories.statements, last)
-    kinds = compared(theories, found)
-    equal, quantifiers, other = (len(kinds[key]) for key in ("equal", "quantifiers", "other"))
-    print(f"{len(theories.statements)} statements, {len(found)} with a name of HOL Light's up to {last}")
-    print(f"{equal} equal, {quantifiers} equal but for outer quantifiers, {other} otherwise")
-    for key in ("quantifiers", "other") if all_of_them else ("other",):
-        for name in kinds[key]:
-            print(f"\n{name}\n  here       {theories.statements[name]}\n  HOL Light  {found[name][1]}")
-    return equal >= WANTED
+    found, others = rows(told_by_record(record) if record else told_by_hol_light(theories))
+    print(table(found))
+    for name, told in others.items() if is_all else ():
+        print(f"\n{name}: {told}\n  here       {theories.statements[name]}")
+    if is_written:
+        page = ROOT / "theories" / "README.md"
+        before, rest = page.read_text(encoding="utf-8").split(BEGIN, 1)
+        page.write_text(f"{before}{BEGIN}\n\n{table(found)}\n\n{END}{rest.split(END, 1)[1]}", encoding="utf-8")
+    differing = sorted(set(others) - ALLOWED)
+    if differing:
+        print(f"library: {len(differing)} statements differ: {', '.join(differing)}")
+    return bool(sum(row.names for row in found.values())) and not differing
 
 
 def middle(texts):
@@ -249,15 +335,16 @@ def costs(theories, program, rounds):
 
 def main():
     parser = argparse.ArgumentParser(description=__doc__, formatter_class=argparse.RawDescriptionHelpFormatter)
-    parser.add_argument("--last", default=STAGES[-1], help=f"the last file of HOL Light that is loaded ({STAGES[-1]})")
-    parser.add_argument("--all", action="store_true", help="list those that differ by their outer quantifiers too")
+    parser.add_argument("--record", metavar="FILE", help="compare with the theorems of a recorded run")
+    parser.add_argument("--all", action="store_true", help="list those that differ, with what stands here")
+    parser.add_argument("--write", action="store_true", help="put the table into theories/README.md")
     parser.add_argument("--program", help="measure this program instead")
     parser.add_argument("--rounds", type=int, default=3, help="how often each is measured (3)")
     given = parser.parse_args()
     theories = Theories()
     if given.program:
         return costs(theories, os.path.abspath(given.program), given.rounds)
-    return None if compare(theories, given.last, given.all) else 1
+    return None if compare(theories, given.record, given.all, given.write) else 1
 
 
 if __name__ == "__main__":

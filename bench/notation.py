@@ -3,7 +3,7 @@
 
     python3 bench/notation.py --program PATH [--rounds N]
 
-PATH is the built program, crates/hol_bench/out/hol_bench. Its texts have so many tokens, or a few less, of one kind:
+PATH is the built program, OUT/hol_bench (bench/programs.py). Its texts have so many tokens, or a few less, of one kind:
 
   brackets   variables as arguments, each inside as many brackets as may be open
   arguments  arguments of a variable

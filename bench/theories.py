@@ -26,7 +26,7 @@ import sys
 from bench import arguments, is_done, is_run, put, report, request, table
 
 ROOT = pathlib.Path(__file__).resolve().parents[1]
-EXAMPLES = ("connectives", "maps", "pairs", "groups")
+EXAMPLES = ("connectives", "maps", "pair_type", "group_axioms")
 THEORIES = 64
 CONSTANTS = 1000
 IMPORTED = 10
@@ -38,10 +38,10 @@ def documents(theories):
 
 
 def commands(name):
-    """The commands of a file of examples/theories, as the clients cut it."""
+    """The commands of a file of examples/theories, as the clients send them."""
     sys.path.insert(0, str(ROOT / "clients"))
-    from holls.text import cut  # the clients' own reader of files
-    return [command.text for command in cut((ROOT / "examples" / "theories" / (name + ".hol")).read_text()).commands]
+    from holls.check import sent  # the clients' own reader of files
+    return sent([str(ROOT / "examples" / "theories" / (name + ".hol"))])[name]
 
 
 def constants(prefix=""):
@@ -106,10 +106,10 @@ def job(name, theories, shown=None):
 
 def jobs():
     examples = [(name, commands(name)) for name in EXAMPLES]
-    stated = [text for name, texts in examples if name != "pairs" for text in texts]  # of groups and of those that it imports
+    stated = [text for name, texts in examples if name != "pair_type" for text in texts]  # of group_axioms and of those that it imports
     proved = sum(text.startswith(("g ", "new_definition", "new_axiom")) for text in stated)
     return [
-        job("examples/theories", examples, (request(op="theorems", theory="groups"), has_theorems(proved))),
+        job("examples/theories", examples, (request(op="theorems", theory="group_axioms"), has_theorems(proved))),
         job("1,000 new_constant", [("A", constants())]),
         job("1,000 new_definition", [("A", definitions())]),
         job("100 proofs over 500 definitions", [("A", proofs_over(500))]),

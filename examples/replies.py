@@ -20,26 +20,22 @@ from concurrent.futures import ThreadPoolExecutor
 
 HERE = pathlib.Path(__file__).resolve().parent
 FOLDER = HERE / "theories"
-THEORIES = ("connectives", "maps", "pairs", "groups", "tactics", "laws", "relations")
+THEORIES = ("connectives", "maps", "pair_type", "group_axioms", "tactics", "laws", "converses")
 SECONDS = 240
 
 sys.path.insert(0, str(HERE.parent / "clients"))
 
-from holls.files import File  # noqa: E402  (the clients' own reader of files)
-
-
-def read(name):
-    """The file of a theory."""
-    file = File(str(FOLDER / (name + ".hol")))
-    file.take((FOLDER / (name + ".hol")).read_text(encoding="utf-8"))
-    return file
+from holls import check  # noqa: E402  (the clients' own reader of files)
 
 
 def with_imports(name):
     """The theory and those that it imports, each after those that it imports itself."""
-    file = read(name)
-    before = [other for imported in file.theory.imports for other in with_imports(imported)]
-    return list({other.theory.name: other for other in [*before, file]}.values())
+    return [file for files in check.ordered([str(FOLDER / (name + ".hol"))]).values() for file in files]
+
+
+def texts(file):
+    """What is sent of a file."""
+    return [command.text for number, command in enumerate(file.commands) if not file.is_declaration(number)]
 
 
 def line(**keys):
@@ -52,14 +48,14 @@ def edits(files):
     made = []
     for place, file in enumerate(files):
         made.append(line(op="new_theory", name=file.theory.name, at=place))
-        made += [line(op="insert", theory=file.theory.name, at=at, text=command.text) for at, command in enumerate(file.commands)]
+        made += [line(op="insert", theory=file.theory.name, at=at, text=text) for at, text in enumerate(texts(file))]
     return made
 
 
 def questions(file):
     """What is asked of a theory: what stands after `> ` and the request."""
     name = file.theory.name
-    asked = [(" ".join(command.text.split()), line(op="report", theory=name, at=at)) for at, command in enumerate(file.commands)]
+    asked = [(" ".join(text.split()), line(op="report", theory=name, at=at)) for at, text in enumerate(texts(file))]
     asked.append(("theorems", line(op="theorems", theory=name)))
     last = [command.name for command in file.commands if command.word == "g"][-1]
     return asked + [("basis " + last, line(op="basis", theory=name, name=last))]

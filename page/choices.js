@@ -1,10 +1,12 @@
 // The list of names that complete what is typed. Focus stays in the text; the list follows the pattern of a listbox with an active descendant.
 import { element } from './element.js';
 
+const WORD = /(?:\\[a-z]*|[A-Za-z_][A-Za-z0-9_']*)$/;
+
 export class Choices {
-  // `complete(isAsked)` answers { word, found } at the cursor.
+  // `complete(place)` answers a promise of what may stand at a place, each with a name and with what is told of it.
   constructor({ list, editor, complete }) {
-    Object.assign(this, { list, editor, complete, found: [], word: '', at: -1, isChosen: false });
+    Object.assign(this, { list, editor, complete, found: [], word: '', at: -1, isChosen: false, asked: 0 });
     const { area } = editor;
     area.addEventListener('keydown', (event) => this.key(event));
     area.addEventListener('blur', () => this.hide());
@@ -29,9 +31,16 @@ export class Choices {
     else this.hide();
   }
 
-  show(isAsked) {
-    const { word, found } = this.complete();
-    if (!found.length || (!isAsked && !word)) {
+  async show(isAsked) {
+    const { editor } = this;
+    const word = WORD.exec(editor.text.slice(Math.max(0, editor.cursor - 80), editor.cursor))?.[0] ?? '';
+    this.asked += 1;
+    const { asked } = this;
+    const place = editor.cursor;
+    const all = isAsked || word ? await this.complete(place) : [];
+    if (asked !== this.asked || place !== editor.cursor) return;
+    const found = all.length === 1 && all[0].name === word ? [] : all;
+    if (!found.length) {
       this.hide();
       return;
     }
@@ -47,6 +56,7 @@ export class Choices {
   }
 
   hide() {
+    this.asked += 1;
     if (!this.isOpen) return;
     this.list.hidden = true;
     this.editor.area.removeAttribute('aria-activedescendant');

@@ -1,9 +1,9 @@
 // The goals after a command, as they are shown.
 import { element } from './element.js';
 
-const SHOWN = 20000; // So many characters of a term are shown. A report has no limit.
-const SYMBOL = /<=>|==>|\\\/|\/\\|->|\?!|[!?\\@~]/g;
+const SYMBOL = /<=>|==>|<=|>=|\\\/|\/\\|->|\?!|[!?\\@~]|(?<![\w'])(?:IN|UNION|INTER|DIFF|P?SUBSET)(?![\w'])/g;
 const SYMBOLS = {
+  '<=': '≤', '>=': '≥', IN: '∈', UNION: '∪', INTER: '∩', DIFF: '∖', SUBSET: '⊆', PSUBSET: '⊂',
   '<=>': '⇔', '==>': '⇒', '\\/': '∨', '/\\': '∧', '->': '→', '?!': '∃!', '!': '∀', '?': '∃', '\\': 'λ', '@': 'ε', '~': '¬',
 };
 
@@ -12,60 +12,59 @@ export const symbolic = (text) => text.replace(SYMBOL, (found, at) => (found ===
 
 export class Goals {
   constructor(pane) {
-    Object.assign(this, { pane, hasSymbols: false, key: null, shownAt: null }); // shownAt: after so many milliseconds the first state was shown
+    Object.assign(this, { pane, hasSymbols: false, isPlain: false, key: null, answer: null, shownAt: null }); // shownAt: after so many milliseconds the first state was shown
   }
 
   term(text) {
-    const shown = text.length <= SHOWN ? text : `${text.slice(0, SHOWN)} .. (${text.length - SHOWN} characters more)`;
-    return this.hasSymbols ? symbolic(shown) : shown;
+    return this.hasSymbols ? symbolic(text) : text;
   }
 
-  // Shows a state as findings.js has it, with words on the command that it is after. Null: nothing is known yet.
-  show(state, after) {
-    const isUnknown = !state || 'unknown' in state;
-    this.pane.classList.toggle('unknown', isUnknown);
-    if (isUnknown) return false;
-    const key = JSON.stringify([state, after, this.hasSymbols]);
-    if (key === this.key) return true;
+  // What is shown isn't what stands there any more.
+  wait() {
+    this.pane.classList.add('unknown');
+  }
+
+  // Shows an answer to `proof/goals`, with words on the command that it is after.
+  show(answer, after) {
+    this.pane.classList.remove('unknown');
+    this.answer = answer;
+    const key = JSON.stringify([answer.goals, answer.messages, answer.error, answer.text, after, this.hasSymbols]);
+    if (key === this.key) return;
     this.key = key;
-    const errors = state.errors.map((text) => element('p', { className: 'refused' }, text));
     this.shownAt ??= Math.max(1, Math.round(performance.now()));
-    this.pane.replaceChildren(...errors, ...this.parts(state, after));
-    return true;
+    const refused = answer.error ? [element('p', { className: 'refused' }, answer.error)] : [];
+    this.pane.replaceChildren(...refused, ...this.parts(answer, after));
   }
 
-  parts({ goals, made }, after) {
-    if (made) {
-      const lines = made.map((entry) => element('pre', { className: 'made' }, this.term(entry)));
-      return lines.length ? [element('p', { className: 'after' }, after), ...lines] : [element('p', {}, 'No proof is open.')];
-    }
+  parts({ goals, messages }, after) {
+    if (messages.length) return [element('p', { className: 'after' }, after), ...messages.map((entry) => element('pre', { className: 'made' }, this.term(entry)))];
     if (!goals) return [element('p', {}, 'No proof is open. Begin one by ', element('code', {}, 'g NAME `term`;;'))];
-    if (!goals.length) return [element('p', { className: 'done' }, 'No goals are left: end the proof by ', element('code', {}, 'qed;;'))];
-    return goals.map((goal, at) => this.goal(goal, at, goals.length));
+    if (!goals.goals.length) return [element('p', { className: 'done' }, 'No goals are left: end the proof by ', element('code', {}, 'qed;;'))];
+    const shown = goals.goals.map((goal, at) => this.goal(goal, at, goals.goals.length + (goals.more ?? 0)));
+    return goals.more ? [...shown, element('p', {}, `and ${goals.more} more`)] : shown;
   }
 
   // A goal: its variables, its assumptions from the oldest, a line, the conclusion.
-  goal({ free, assumptions, conclusion }, at, count) {
-    const variables = free.map((one) => this.term(one.replace(':', ' : ')));
-    const assumed = [...assumptions].reverse().map((text) => element('li', {}, element('code', {}, this.term(text))));
+  goal({ hyps, ty: conclusion }, at, count) {
+    const isAssumption = ({ names: [name] }) => /^[0-9]/.test(name);
+    const variables = hyps.filter((one) => !isAssumption(one)).map(({ names: [name], ty }) => this.term(`${name} : ${ty}`));
+    const assumed = hyps.filter(isAssumption).map(({ ty }) => element('li', {}, element('code', {}, this.term(ty))));
     const title = count > 1 ? `Goal ${at + 1} of ${count}` : '1 goal';
     return element('article', { className: at ? 'goal later' : 'goal', 'aria-label': title },
       element('h3', {}, title),
       ...(variables.length ? [element('p', { className: 'variables' }, element('code', {}, variables.join('   ')))] : []),
-      ...(assumed.length ? [element('ol', { className: 'assumptions', start: 0, 'aria-label': 'Assumptions' }, ...assumed)] : []),
+      ...(assumed.length ? [element('ul', { className: 'assumptions', 'aria-label': 'Assumptions' }, ...assumed)] : []),
       element('pre', { className: 'conclusion', 'aria-label': 'Conclusion' }, this.term(conclusion)));
   }
 }
 
-// The state in a sentence, for a screen reader.
-export function said(state) {
-  if (!state || 'unknown' in state) return '';
-  const { goals, made, errors } = state;
-  if (errors.length) return errors.join('. ');
-  if (made) return made.length ? `made ${made.join(', ')}` : 'no proof is open';
+// An answer in a sentence, for a screen reader.
+export function said({ goals, messages, error }) {
+  if (error) return error;
+  if (messages.length) return `made ${messages.join(', ')}`;
   if (!goals) return 'no proof is open';
-  if (!goals.length) return 'no goals are left';
-  const [{ conclusion }] = goals;
-  const shown = conclusion.length < 300 ? conclusion : `${conclusion.slice(0, 300)} ..`;
-  return `${goals.length === 1 ? '1 goal' : `${goals.length} goals`}: ${shown}`;
+  if (!goals.goals.length) return 'no goals are left';
+  const { length } = goals.goals;
+  const [{ ty }] = goals.goals;
+  return `${length === 1 ? '1 goal' : `${length} goals`}: ${ty.length < 300 ? ty : `${ty.slice(0, 300)} ..`}`;
 }

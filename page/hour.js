@@ -20,7 +20,7 @@ export function lessonOf(name) {
 
 export class Hour {
   // `done` are the numbers of the lessons that are done; `start(name, text, place, isAnew)` opens a lesson's theory with the cursor at a
-  // place, `put(code)` writes at the cursor, `basis(theory, name)` answers on what a theorem rests, and `passed(number)` is called when a
+  // place, `put(code)` writes at the cursor, `basis(theorem)` answers on what a theorem rests, and `passed(number)` is called when a
   // lesson is done.
   constructor({ pane, done, start, put, basis, passed }) {
     Object.assign(this, { pane, start, put, basis, passed, done: new Set(done), number: -1, hints: 0, checked: '' });
@@ -101,15 +101,18 @@ export class Hour {
     this.pane.focus();
   }
 
-  // Ticks the lesson of a theory off, if what it wants was made in it, and without axioms of its own.
+  // Ticks the lesson of a theory off, if what it wants was made in it, and without axioms of its own. `made()` answers a promise of the theorems
+  // that stand there, each with its name and statement.
   async check(theory, made) {
     const number = lessonOf(theory.name);
-    if (number < 0 || this.done.has(number)) return;
-    const { wanted } = LESSONS[number];
-    if (!wanted.every((text) => made.includes(text)) || this.checked === theory.text) return;
-    this.checked = theory.text;
-    const names = wanted.map((text) => THEOREM.exec(text)[1]);
-    const bases = await Promise.all(names.map((name) => this.basis(theory.name, name)));
+    if (number < 0 || this.done.has(number) || this.checked === theory.text) return;
+    const { text } = theory;
+    const found = await made();
+    const wanted = LESSONS[number].wanted.map((one) => found.find(({ name, statement }) => `thm ${name} |- ${statement}` === one));
+    if (!wanted.every(Boolean)) return;
+    const bases = await Promise.all(wanted.map((one) => this.basis(one)));
+    if (theory.text !== text) return;
+    this.checked = text;
     if (this.done.has(number) || !bases.every(isFree)) return;
     this.done.add(number);
     this.passed(number);

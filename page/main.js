@@ -1,49 +1,75 @@
-// The page: the open theories, the session with the prover, and what is shown of them.
+// The page: the open theories, and what the bridge tells of them.
 import { Choices } from './choices.js';
 import { Editor } from './editor.js';
 import { element } from './element.js';
-import { findings, state } from './findings.js';
 import { Goals, said } from './goals.js';
 import { help } from './help.js';
 import { Hour, lessonOf, theoryOf } from './hour.js';
 import { LESSONS, given } from './lessons.js';
-import { completions, known, search } from './names.js';
-import { isName } from './notation.js';
-import { Session } from './session.js';
+import { Bridge } from './lsp.js';
+import { colour } from './paint.js';
 import { elsewhere, keep, linkOf, linked, nameOfFile, restore, saveFile } from './store.js';
-import { Theory, wanted } from './theory.js';
-import { open } from './transport.js';
+import { Theory, isName, nameOf, uriOf } from './theory.js';
 import { announce, keys, panels, tabs } from './frame.js';
+import { hoverOf } from './hover.js';
 
-const SETTLED = 200; // So many milliseconds what was found before an edit stays shown, where not all is known again.
-const FOUND = 200; // So many theorems are listed at most.
-const SECONDS = Number(new URLSearchParams(location.search).get('seconds')) || 20;
+const SETTLED = 200; // So many milliseconds after an edit what could be done is asked for, and what was found is searched anew.
+const KEPT = 400; // So long after an edit all is kept.
+const DWELL = 500; // So long a pointer rests before it is told what it is on.
+const COMPLETIONS = 40;
+const SECONDS = Number(new URLSearchParams(location.search).get('seconds')) || undefined;
 const $ = (id) => document.getElementById(id);
+
+// Calls a function once, some time after the last of some calls.
+function later(milliseconds, act) {
+  let timer = null;
+  return () => {
+    clearTimeout(timer);
+    timer = setTimeout(act, milliseconds);
+  };
+}
 
 class Page {
   constructor() {
     const kept = restore();
     this.theories = kept.tabs.map(({ name, text }) => new Theory(name, text));
     this.active = null;
-    this.opened = new Set();
-    Object.assign(this, { found: [], settleAt: 0, timer: null, saidTimer: null, isTold: false, isResting: false });
-    this.session = new Session({ open, pick: () => this.pick(), told: () => this.told(), seconds: SECONDS });
+    Object.assign(this, { asked: null, goalsOf: null, manual: null, failure: null, isResting: false, isDrawn: true, saidTimer: null, searched: 0, fixing: 0 });
+    this.bridge = new Bridge({
+      options: { seconds: SECONDS, slow: 1, refused: true, mostCompletions: COMPLETIONS },
+      heard: {
+        'textDocument/publishDiagnostics': (params) => this.diagnostics(params),
+        '$/hol/fileProgress': (params) => this.progress(params),
+        '$/progress': ({ value }) => { $('progress').textContent = value.message ?? ''; },
+        'window/showMessage': ({ message }) => this.fail(message),
+        'workspace/codeLens/refresh': () => this.known(),
+      },
+      begun: () => this.begun(),
+      ended: (words) => this.ended(words),
+    });
     this.goals = new Goals($('goals'));
     this.goals.hasSymbols = kept.hasSymbols;
     this.editor = new Editor({ area: $('text'), under: $('under'), changed: () => this.changed(), moved: () => this.moved() });
-    this.choices = new Choices({ list: $('choices'), editor: this.editor, complete: () => this.complete() });
+    this.choices = new Choices({ list: $('choices'), editor: this.editor, complete: (place) => this.complete(place) });
     this.hour = new Hour({
       pane: $('hour'), done: kept.done, start: (...lesson) => this.startLesson(...lesson), put: (code) => this.editor.insert(code),
-      basis: async (theory, name) => this.basis(theory, name), passed: (number) => this.passed(number),
+      basis: (one) => this.basis(this.active.uri, one.name), passed: (number) => this.passed(number),
     });
+    this.settled = later(SETTLED, () => {
+      this.fixes();
+      this.search();
+    });
+    this.keepSoon = later(KEPT, () => this.keep());
+    this.rested = later(DWELL, () => this.hover(this.editor.placeAt(...this.pointer), this.pointer));
     this.frame();
     this.begin(kept.active);
+    this.bridge.open();
   }
 
   frame() {
     keys($('keys'), (text) => this.editor.insert(text));
     panels($('panel-tabs'));
-    $('help').replaceChildren(...help());
+    $('help').replaceChildren(...help(null));
     const actions = {
       new: () => this.add(this.freeName('Theory'), ''),
       open: () => $('files').click(),
@@ -52,11 +78,12 @@ class Page {
       rename: () => this.rename(),
       close: () => this.close(this.active),
       symbols: () => this.toggleSymbols(),
-      stop: () => this.session.stopRunning(),
+      plain: () => this.togglePlain(),
+      stop: () => this.bridge.request('workspace/executeCommand', { command: 'holls.stop' }),
     };
     for (const [id, action] of Object.entries(actions)) $(id).addEventListener('click', action);
     $('files').addEventListener('change', () => this.openFiles($('files').files));
-    $('query').addEventListener('input', () => this.search());
+    $('query').addEventListener('input', () => this.settled());
     document.addEventListener('dragover', (event) => event.preventDefault());
     document.addEventListener('drop', (event) => {
       event.preventDefault();
@@ -64,6 +91,13 @@ class Page {
     });
     document.addEventListener('keydown', (event) => this.key(event));
     window.addEventListener('hashchange', () => this.openLink());
+    window.addEventListener('pagehide', () => this.keep());
+    $('text').addEventListener('pointermove', ({ clientX, clientY, pointerType }) => {
+      $('hover').hidden = true;
+      this.pointer = [clientX, clientY];
+      if (pointerType === 'mouse') this.rested();
+    });
+    $('text').addEventListener('pointerleave', () => { this.pointer = [-1, -1]; });
     elsewhere(() => this.rest());
     $('symbols').setAttribute('aria-pressed', String(this.goals.hasSymbols));
   }
@@ -72,15 +106,123 @@ class Page {
   rest() {
     if (this.isResting) return;
     this.isResting = true;
-    const again = element('button', { onclick: () => location.reload() }, 'Go on here');
-    $('banner').replaceChildren('The page is open in another window, in which you went on. What is written here is not kept. ', again);
-    $('banner').hidden = false;
+    this.banner();
+  }
+
+  banner() {
+    const button = (words, onclick) => element('button', { onclick }, words);
+    const parts = this.isResting
+      ? ['The page is open in another window, in which you went on. What is written here is not kept. ', button('Go on here', () => location.reload())]
+      : [`The prover doesn't answer: ${this.failure}. `, button('Try again', () => this.again())];
+    $('banner').replaceChildren(...parts);
+    $('banner').hidden = !this.isResting && !this.failure;
+  }
+
+  fail(words) {
+    this.failure = words;
+    this.banner();
+  }
+
+  again() {
+    this.fail(null);
+    if (this.bridge.isBegun) this.bridge.request('workspace/executeCommand', { command: 'holls.restart' });
+    else this.bridge.open();
   }
 
   async begin(active) {
     if (!this.theories.length) this.theories.push(new Theory(theoryOf(0), given(LESSONS[0])));
     const before = this.theories.find(({ name }) => name === active) ?? this.theories[0];
     if (!await this.openLink()) this.activate(before);
+  }
+
+  // The bridge
+
+  async begun() {
+    this.fail(null);
+    for (const theory of this.theories) theory.forget();
+    if (this.active) this.show();
+    this.manual ??= await this.bridge.request('hol/manual', {});
+    if (!this.manual) return;
+    colour(this.manual);
+    this.editor.symbols = this.manual.symbols;
+    $('help').replaceChildren(...help(this.manual));
+    this.draw();
+  }
+
+  ended(words) {
+    for (const theory of this.theories) theory.forget();
+    this.asked = null;
+    if (words) this.fail(words);
+    this.draw();
+  }
+
+  // Opens a theory in the bridge, with those that it may import, which come first.
+  open(theory) {
+    if (theory.isOpen || !this.bridge.isBegun) return;
+    theory.isOpen = true;
+    for (const name of theory.imports) {
+      const other = this.theories.find((one) => one.name === name);
+      if (other) this.open(other);
+    }
+    const { uri, version, text } = theory;
+    this.bridge.notify('textDocument/didOpen', { textDocument: { uri, languageId: 'hol', version, text } });
+  }
+
+  shut(theory) {
+    if (theory.isOpen) this.bridge.notify('textDocument/didClose', { textDocument: { uri: theory.uri } });
+    theory.forget();
+  }
+
+  of(uri) {
+    return this.theories.find((theory) => theory.uri === uri);
+  }
+
+  diagnostics({ uri, version, diagnostics }) {
+    const theory = this.of(uri);
+    if (!theory || version !== theory.version) return;
+    theory.takeDiagnostics(diagnostics);
+    if (theory === this.active) this.news();
+  }
+
+  progress({ textDocument: { uri, version }, processing }) {
+    const theory = this.of(uri);
+    if (!theory || version !== theory.version) return;
+    theory.takeProgress(processing);
+    if (theory === this.active) this.news();
+  }
+
+  // What is told of the active theory is drawn with the browser's next picture, and not for each message.
+  news() {
+    if (!this.isDrawn) return;
+    this.isDrawn = false;
+    requestAnimationFrame(() => this.draw());
+  }
+
+  draw() {
+    this.isDrawn = true;
+    if (!this.active) return;
+    this.editor.paint(this.active, this.active.pieceAt(this.editor.cursor));
+    this.errors();
+    $('stop').hidden = !this.active.isSlow;
+    if (this.active.isDone) this.settled();
+  }
+
+  // All is known.
+  known() {
+    const { active } = this;
+    $('progress').textContent = '';
+    this.hour.check(active, async () => {
+      const lenses = await this.bridge.request('textDocument/codeLens', { textDocument: { uri: active.uri } });
+      return (lenses ?? []).map(({ data }) => data);
+    });
+  }
+
+  get isDone() {
+    return this.asked === null && this.isDrawn && this.theories.every((theory) => !theory.isOpen || theory.isDone) && this.active.isOpen;
+  }
+
+  async basis(uri, name) {
+    return (await this.bridge.request('codeLens/resolve', { data: { uri, name } }))?.data.items ?? null;
   }
 
   // Theories
@@ -103,15 +245,22 @@ class Page {
   activate(theory, place = theory.place ?? theory.text.length) {
     if (this.active) this.active.place = this.editor.cursor;
     this.active = theory;
-    this.opened.add(theory);
     this.editor.show(theory.text, place);
-    this.editor.paint(theory);
     this.tabs();
     this.hour.show(theory.name);
     if (lessonOf(theory.name) >= 0) $('tab-hour').click();
     $('text').setAttribute('aria-label', `Text of the theory ${theory.name}`);
-    this.want();
+    this.show();
+    this.keepSoon();
+  }
+
+  show() {
+    this.bridge.wake();
+    this.open(this.active);
+    this.goalsOf = null;
+    this.draw();
     this.moved();
+    this.known();
   }
 
   tabs() {
@@ -122,7 +271,7 @@ class Page {
     if (theory.text.trim() && lessonOf(theory.name) < 0 && !window.confirm(`Close ${theory.name}? What isn't saved as a file is lost.`)) return;
     const at = this.theories.indexOf(theory);
     this.theories.splice(at, 1);
-    this.opened.delete(theory);
+    this.shut(theory);
     if (!this.theories.length) this.theories.push(new Theory('Theory1', ''));
     this.active = null;
     this.activate(this.theories[Math.min(at, this.theories.length - 1)]);
@@ -135,13 +284,12 @@ class Page {
       this.tell(`${name} can't be its name: it has to be letters, digits, _ or ' behind a letter or _, and no other theory's.`);
       return;
     }
-    const { text } = this.active;
-    const at = this.theories.indexOf(this.active);
-    this.opened.delete(this.active);
-    this.theories[at] = new Theory(name, text);
-    this.theories[at].place = this.editor.cursor;
+    const renamed = new Theory(name, this.active.text);
+    renamed.place = this.editor.cursor;
+    this.shut(this.active);
+    this.theories[this.theories.indexOf(this.active)] = renamed;
     this.active = null;
-    this.activate(this.theories[at]);
+    this.activate(renamed);
   }
 
   async openFiles(files) {
@@ -159,12 +307,19 @@ class Page {
   async openLink() {
     const found = await linked(location.hash);
     if (location.hash) history.replaceState(null, '', location.pathname + location.search);
-    if (found) this.take(nameOfFile(found.name), found.text);
-    return Boolean(found);
+    for (const { name, text } of found) this.take(nameOfFile(name), text);
+    return found.length > 0;
+  }
+
+  // A theory behind the open ones that it imports, by way of others too.
+  withImports(theory, seen = new Set()) {
+    seen.add(theory);
+    const imported = theory.imports.map((name) => this.theories.find((one) => one.name === name));
+    return [...imported.flatMap((one) => (one && !seen.has(one) ? this.withImports(one, seen) : [])), theory];
   }
 
   async copyLink() {
-    const link = await linkOf(this.active.name, this.active.text);
+    const link = await linkOf(this.withImports(this.active));
     this.link = link;
     try {
       await navigator.clipboard.writeText(link);
@@ -189,165 +344,168 @@ class Page {
   }
 
   keep() {
-    if (this.isResting) return;
+    if (this.isResting || !this.active) return;
     const tabs = this.theories.map(({ name, text }) => ({ name, text }));
     const isKept = keep({ tabs, active: this.active.name, done: [...this.hour.done], hasSymbols: this.goals.hasSymbols });
     if (!isKept) this.tell('The browser keeps no more text: save the theory as a file.');
   }
 
-  // The prover
-
-  want() {
-    const order = wanted(this.active, [...this.opened], this.theories);
-    for (const theory of order) this.opened.add(theory);
-    this.session.want(order);
-    this.settleAt = performance.now() + SETTLED;
-    this.keep();
-    if (this.session.isIdle) this.told(); // Where nothing is asked, no reply brings news.
+  // Goes to a place that the bridge names: of a theory of the library a copy is opened.
+  async goTo({ uri, range }) {
+    const name = nameOf(uri);
+    let theory = this.theories.find((one) => one.name === name);
+    if (!theory && uri !== uriOf(name)) {
+      const text = await fetch(`theories/${encodeURIComponent(name)}.hol`);
+      if (!text.ok) return;
+      theory = new Theory(name, await text.text());
+      this.theories.push(theory);
+    }
+    if (!theory) return;
+    if (theory !== this.active) this.activate(theory);
+    this.editor.go(theory.lines.place(range.start));
   }
+
+  // At the cursor
 
   changed() {
     const { active } = this;
-    active.take(this.editor.text);
-    this.editor.paint(active);
-    this.want();
-    this.look();
-    this.choices.typed();
-  }
-
-  // What is asked for next: what the goals at the cursor need, then the commands from the cursor on, then all others.
-  pick() {
-    const { active } = this;
-    const now = state(active, this.number());
-    if ('unknown' in now && !active.entries[now.unknown].isAsked) return [active, now.unknown];
-    const first = active.slots[Math.max(0, this.number())] ?? 0;
-    const { theories } = this.session;
-    for (const theory of [...theories.filter((one) => one === active), ...theories.filter((one) => one !== active)]) {
-      const at = nextUnknown(theory, theory === active ? first : 0);
-      if (at >= 0) return [theory, at];
+    const change = active.take(this.editor.text);
+    this.bridge.wake();
+    if (change && active.isOpen) {
+      const { uri, version } = active;
+      for (const name of active.imports) {
+        const other = this.theories.find((one) => one.name === name);
+        if (other) this.open(other);
+      }
+      this.bridge.notify('textDocument/didChange', { textDocument: { uri, version }, contentChanges: [change] });
     }
-    return null;
-  }
-
-  async basis(theory, name) {
-    const reply = await this.session.ask({ op: 'basis', theory, name });
-    return reply?.kind === 'items' ? reply.items : null;
-  }
-
-  // After each reply: the goals as soon as they are known, all else once it is settled.
-  told() {
-    if (this.isTold) return;
-    this.isTold = true;
-    queueMicrotask(() => {
-      this.isTold = false;
-      this.showGoals();
-      if (this.session.isIdle || performance.now() > this.settleAt) this.settleSoon();
-      this.showStatus();
-    });
-  }
-
-  settleSoon() {
-    if (this.timer) return;
-    this.timer = requestAnimationFrame(() => {
-      this.timer = null;
-      this.settle();
-    });
-  }
-
-  // Showing
-
-  number() {
-    return this.active.numberAt(this.editor.cursor);
+    this.askGoals();
+    this.editor.paint(active, active.pieceAt(this.editor.cursor));
+    $('hover').hidden = true;
+    $('stop').hidden = true;
+    $('fixes').replaceChildren(); // They are of the text before.
+    this.fixing += 1;
+    this.choices.typed();
+    this.settled();
+    this.keepSoon();
   }
 
   moved() {
-    this.look();
-    this.session.pump();
+    this.editor.mark(this.active.pieceAt(this.editor.cursor));
+    this.askGoals();
+    this.settled();
   }
 
-  look() {
-    const number = this.number();
-    this.editor.mark(this.active.cut.pieces.findIndex((piece) => piece.number === number));
-    this.showGoals();
+  at(place = this.editor.cursor) {
+    return { textDocument: { uri: this.active.uri }, position: this.active.lines.position(place) };
   }
 
-  showGoals() {
-    const number = this.number();
-    const now = state(this.active, number);
-    const isShown = this.goals.show(now, number < 0 ? '' : `made by ${this.active.commands[number].word} on line ${this.active.line(number)}`);
-    if (isShown) announceSoon(this, said(now));
-  }
-
-  // Shows what is known of all commands.
-  settle() {
+  // Asks for the goals after the command at the cursor, unless these are what is shown.
+  async askGoals() {
     const { active } = this;
-    this.found = findings(active);
-    const byNumber = new Map();
-    for (const finding of this.found) byNumber.set(finding.number, [...byNumber.get(finding.number) ?? [], finding]);
-    this.editor.paint(active, (at) => {
-      const { number } = active.cut.pieces[at];
-      const own = number === undefined ? [] : byNumber.get(number) ?? [];
-      return { status: number === undefined ? '' : statusOf(active.entry(number), own), findings: own };
-    });
-    this.look();
-    this.showErrors();
-    this.search();
-    this.hour.check(active, active.entries.flatMap(({ report }) => (report?.kind === 'made' ? report.entries : [])));
+    const piece = active.pieceAt(this.editor.cursor);
+    const key = `${active.name} ${active.version} ${piece} ${this.editor.cursor >= (active.pieces[piece]?.from ?? 0)}`;
+    if (key === this.goalsOf || !active.isOpen) return;
+    this.goalsOf = key;
+    this.goals.wait();
+    if (this.asked) this.bridge.cancel(this.asked.number);
+    const asked = this.bridge.request('proof/goals', { ...this.at(), plain: this.goals.isPlain });
+    this.asked = asked;
+    const answer = await asked;
+    if (this.asked !== asked) return;
+    this.asked = null;
+    if (!answer) return;
+    const start = answer.range && active.lines.place(answer.range.start);
+    const word = answer.range ? /^\w*/.exec(active.text.slice(start, start + 40))[0] : '';
+    this.goals.show(answer, answer.range ? `made by ${word} on line ${answer.range.start.line + 1}` : '');
+    announceSoon(this, said(answer));
   }
 
-  showErrors() {
-    const items = this.found.filter(({ severity }) => severity !== 'note').map(({ start, severity, text }) => element('li', { className: severity },
-      element('button', { onclick: () => this.editor.go(start) }, `Line ${this.active.lineAt(start)}: ${text}`)));
+  errors() {
+    const { active } = this;
+    const told = active.found.filter(({ severity }) => severity === 'error' || severity === 'warning');
+    const items = told.map(({ start, severity, text }) => element('li', { className: severity },
+      element('button', { onclick: () => this.editor.go(start) }, `Line ${active.lines.line(start) + 1}: ${text}`)));
     const list = $('errors');
     if (list.textContent !== items.map(({ textContent }) => textContent).join('')) list.replaceChildren(...items);
   }
 
-  showStatus() {
-    const { session, active } = this;
-    const { failure } = session;
-    $('banner').hidden = !failure && !this.isResting;
-    if (failure) {
-      const again = element('button', { onclick: () => this.want() }, 'Try again');
-      $('banner').replaceChildren(`The prover doesn't answer: ${failure}. `, again);
+  // What could be done about the command at the cursor: quick fixes, and finding a proof.
+  async fixes() {
+    this.fixing += 1;
+    const { fixing, active } = this;
+    const { textDocument } = this.at();
+    const { from, end } = active.pieces[active.pieceAt(this.editor.cursor)] ?? { from: 0, end: 0 };
+    const range = { start: active.lines.position(from), end: active.lines.position(end) };
+    const found = active.isOpen ? await this.bridge.request('textDocument/codeAction', { textDocument, range, context: { diagnostics: [] } }) : [];
+    if (fixing !== this.fixing) return;
+    const buttons = (found ?? []).map((action) => element('button', { onclick: (event) => this.fix(action, event.target) }, action.title));
+    const before = [...$('fixes').children].map(({ textContent }) => textContent).join('\n');
+    const isSame = before === buttons.map(({ textContent }) => textContent).join('\n') && this.fixedVersion === active.version;
+    this.fixedVersion = active.version;
+    if (!isSame) $('fixes').replaceChildren(...buttons);
+  }
+
+  async fix(action, button) {
+    let { edit } = action;
+    const { active } = this;
+    if (!edit) {
+      button.disabled = true;
+      button.textContent = 'Searching …';
+      edit = (await this.bridge.request('codeAction/resolve', action, (words) => this.tell(words)))?.edit;
+      this.fixedVersion = -1;
+      this.settled();
     }
-    const all = active.isSent ? active.entries.filter(({ isHidden }) => !isHidden) : [];
-    const known = all.filter(({ report }) => report !== null).length;
-    const isSlow = session.running > 0.9;
-    $('stop').hidden = !isSlow;
-    const far = known < all.length ? `${known} of ${all.length} commands` : '';
-    $('progress').textContent = isSlow ? `running for ${Math.round(session.running)} s` : far;
-    clearTimeout(this.statusTimer);
-    if (!session.isIdle) this.statusTimer = setTimeout(() => this.showStatus(), 500);
+    if (!edit || active !== this.active) return;
+    const edits = (edit.changes[active.uri] ?? []).map(({ range, newText }) => ({ ...active.range(range), newText }));
+    for (const { start, end, newText } of edits.sort((one, other) => other.start - one.start)) this.editor.insert(newText, start, end);
   }
 
-  search() {
-    if ($('theorems').hidden) return;
-    const found = search($('query').value, known(this.session.theories));
-    const more = found.length > FOUND ? `, the first ${FOUND} of them` : '';
-    $('found').textContent = found.length === 1 ? '1 theorem' : `${found.length} theorems${more}`;
-    $('list').replaceChildren(...found.slice(0, FOUND).map((one) => this.theorem(one)));
+  async complete(place) {
+    const found = this.active.isOpen ? await this.bridge.request('textDocument/completion', this.at(place)) : null;
+    return (found?.items ?? []).map(({ label, detail, documentation, textEdit }) => (
+      { name: textEdit?.newText ?? label, told: textEdit ? label : documentation && !/ of /.test(documentation) ? `${detail}: ${documentation}` : detail }));
   }
 
-  theorem({ name, shown, origin, theory, number }) {
+  // Tells what stands at a place, beside a point of the screen.
+  async hover(place, [x, y]) {
+    if (place < 0 || !this.active.isOpen) return;
+    const answer = await this.bridge.request('textDocument/hover', this.at(place));
+    if (!answer) return;
+    const box = $('hover');
+    box.replaceChildren(...hoverOf(answer.contents.value, (text) => this.goals.term(text)));
+    box.hidden = false;
+    box.style.left = `${Math.max(4, Math.min(x, window.innerWidth - box.offsetWidth - 12))}px`;
+    box.style.top = `${y + 18 + box.offsetHeight > window.innerHeight ? Math.max(4, y - box.offsetHeight - 12) : y + 18}px`;
+    announce(box.textContent);
+  }
+
+  async search() {
+    if ($('theorems').hidden || !this.bridge.isBegun) return;
+    this.searched += 1;
+    const { searched } = this;
+    const query = $('query').value.trim();
+    let told = '';
+    const waits = setTimeout(() => { $('found').textContent = 'Searching …'; }, SETTLED);
+    const found = await this.bridge.request('hol/search', { query: query || '_' }, (words) => { told = words; }) ?? [];
+    clearTimeout(waits);
+    if (searched !== this.searched) return;
+    $('found').textContent = told || (found.length === 1 ? '1 theorem' : `${found.length} theorems`);
+    const key = JSON.stringify(found.map(({ name, statement, theory }) => [name, statement, theory]));
+    if (key === this.listed) return;
+    this.listed = key;
+    $('list').replaceChildren(...found.map((one) => this.theorem(one)));
+  }
+
+  theorem({ name, statement, theory, location: where }) {
     const put = element('button', { title: 'write its name at the cursor', onclick: () => this.editor.insert(name) }, name);
     const rests = element('span', { className: 'rests' });
-    const tell = async () => { rests.textContent = `rests on ${(await this.basis(origin, name))?.join(', ') || 'nothing of its own'}`; };
-    const go = () => {
-      if (theory !== this.active) this.activate(theory);
-      this.editor.go(theory.commands[number].start);
-    };
     const small = (words, onclick) => element('button', { className: 'small', onclick }, words);
-    const more = theory ? [small(origin, go), ' ', small('rests on …', tell), ' ', rests] : [element('small', {}, origin)];
-    return element('li', {}, put, ' ', ...more, element('pre', {}, this.goals.term(shown)));
-  }
-
-  complete() {
-    const { active, editor } = this;
-    const piece = active.cut.pieces.filter(({ start }) => start <= editor.cursor).pop();
-    const before = active.text.slice(piece.start, editor.cursor).replace(/\(\*[^]*?\*\)/g, ' ').trimStart();
-    const now = state(active, this.number());
-    const free = (now.goals ?? []).slice(0, 1).flatMap((goal) => goal.free);
-    return completions(before, known(this.session.theories), this.theories.map(({ name }) => name), free);
+    const tell = async () => { rests.textContent = `rests on ${(await this.basis(where.uri, name))?.join(', ') || 'nothing of its own'}`; };
+    const isOpen = where && this.of(where.uri);
+    const from = where ? small(theory, () => this.goTo(where)) : element('small', {}, theory);
+    const more = isOpen ? [from, ' ', small('rests on …', tell), ' ', rests] : [from];
+    return element('li', {}, put, ' ', ...more, element('pre', {}, this.goals.term(statement)));
   }
 
   passed(number) {
@@ -364,42 +522,51 @@ class Page {
   toggleSymbols() {
     this.goals.hasSymbols = !this.goals.hasSymbols;
     $('symbols').setAttribute('aria-pressed', String(this.goals.hasSymbols));
-    this.showGoals();
+    this.goalsOf = null;
+    this.listed = null;
+    this.askGoals();
     this.search();
     this.keep();
+  }
+
+  // Shows the goals as the program says them, or again in the notation of the theory.
+  togglePlain() {
+    this.goals.isPlain = !this.goals.isPlain;
+    $('plain').setAttribute('aria-pressed', String(this.goals.isPlain));
+    this.goalsOf = null;
+    this.askGoals();
   }
 
   key(event) {
     const { active, editor } = this;
     if (event.key === 's' && (event.ctrlKey || event.metaKey)) {
       saveFile(active.name, active.text);
+    } else if (event.key === 'F1') {
+      const { left, top } = editor.rectangle(editor.cursor);
+      this.hover(editor.cursor, [left, top]);
+    } else if (event.key === 'F2') {
+      this.bridge.request('textDocument/definition', this.at()).then((found) => found && this.goTo(found));
+    } else if (event.key === 'F4') {
+      this.togglePlain();
+    } else if (event.key === 'Escape') {
+      $('hover').hidden = true;
+      return;
+    } else if (event.key === 'Enter' && event.altKey) {
+      $('fixes').querySelector('button')?.focus();
     } else if (event.key === 'F8') {
-      const places = this.found.filter(({ severity }) => severity === 'error' || severity === 'warning').map(({ start }) => start);
+      const places = active.found.filter(({ severity }) => severity === 'error' || severity === 'warning').map(({ start }) => start);
       const next = event.shiftKey ? places.reverse().find((place) => place < editor.cursor) : places.find((place) => place > editor.cursor);
       if (places.length) editor.go(next ?? places[0]);
     } else if (event.altKey && (event.key === 'ArrowUp' || event.key === 'ArrowDown')) {
-      const number = this.number() + (event.key === 'ArrowUp' ? -1 : 1);
-      if (active.commands[number]) editor.go(active.commands[number].start);
+      const step = event.key === 'ArrowUp' ? -1 : 1;
+      let at = active.pieceAt(editor.cursor) + step;
+      while (active.pieces[at]?.from < 0) at += step;
+      if (active.pieces[at]) editor.go(active.pieces[at].from);
     } else {
       return;
     }
     event.preventDefault();
   }
-}
-
-// The first command from a place on of which nothing is known and nothing was asked, else the first one before; -1 where there is none.
-function nextUnknown(theory, first) {
-  const isUnknown = ({ report, isAsked, isHidden }) => report === null && !isAsked && !isHidden;
-  const behind = theory.entries.findIndex((entry, at) => at >= first && isUnknown(entry));
-  return behind >= 0 ? behind : theory.entries.findIndex(isUnknown);
-}
-
-function statusOf(entry, found) {
-  if (!entry) return 'note';
-  if (entry.report === null) return entry.isSlow ? 'slow' : 'pending';
-  if (found.some(({ severity }) => severity === 'error')) return 'error';
-  if (entry.report.kind === 'lost') return 'warning';
-  return entry.report.kind === 'refusal' ? 'note' : 'ok';
 }
 
 function announceSoon(page, text) {

@@ -1,16 +1,19 @@
 // What the browser keeps: the open theories and the lessons that are done; and theories as files and as links.
-import { isName } from './notation.js';
-import { LIMITS } from './tables.js';
+import { isName } from './theory.js';
 
 const KEY = 'hol-serve';
 const LINK = 'theory';
+const NAME = 64;
+const LINKED = 400000; // A link that holds more bytes of text is none.
+const MOST = 64; // So many theories of a link are taken.
 
 // What was kept, or what a first visit begins with.
 export function restore() {
   try {
     const kept = JSON.parse(localStorage.getItem(KEY));
-    const tabs = (kept?.tabs ?? []).filter(({ name, text }) => typeof name === 'string' && typeof text === 'string');
-    return { tabs, active: kept?.active ?? '', done: kept?.done ?? [], hasSymbols: Boolean(kept?.hasSymbols) };
+    const list = (value) => (Array.isArray(value) ? value : []);
+    const tabs = list(kept?.tabs).filter((one) => typeof one?.name === 'string' && typeof one.text === 'string');
+    return { tabs, active: kept?.active ?? '', done: list(kept?.done), hasSymbols: Boolean(kept?.hasSymbols) };
   } catch (error) {
     return { tabs: [], active: '', done: [], hasSymbols: false };
   }
@@ -42,11 +45,22 @@ export function saveFile(name, text) {
 
 // The name of a file's theory: the file's without its suffix, with _ for what can't be in a name.
 export function nameOfFile(file) {
-  const name = file.replace(/\.[^.]*$/, '').replace(/[^A-Za-z0-9_']/g, '_').slice(0, LIMITS.name);
-  return isName(name) ? name : `_${name}`.slice(0, LIMITS.name);
+  const name = file.replace(/\.[^.]*$/, '').replace(/[^A-Za-z0-9_']/g, '_').slice(0, NAME);
+  return isName(name) ? name : `_${name}`.slice(0, NAME);
 }
 
-const through = async (bytes, stream) => new Uint8Array(await new Response(new Blob([bytes]).stream().pipeThrough(stream)).arrayBuffer());
+// Bytes through a stream; null where more come of them than `most`.
+async function through(bytes, stream, most = Infinity) {
+  const reader = new Blob([bytes]).stream().pipeThrough(stream).getReader();
+  const parts = [];
+  let size = 0;
+  for (let part = await reader.read(); !part.done; part = await reader.read()) {
+    parts.push(part.value);
+    size += part.value.length;
+    if (size > most) return null;
+  }
+  return new Uint8Array(await new Blob(parts).arrayBuffer());
+}
 
 // Bytes as letters, digits, - and _, and back.
 function letters(bytes) {
@@ -56,20 +70,29 @@ function letters(bytes) {
 
 const bytesOf = (text) => Uint8Array.from(atob(text.replace(/-/g, '+').replace(/_/g, '/')), (character) => character.charCodeAt(0));
 
-// A link to this page with a theory in it: #theory=NAME.TEXT, the text in UTF-8, deflated.
-export async function linkOf(name, text) {
-  const deflated = await through(new TextEncoder().encode(text), new CompressionStream('deflate-raw'));
-  return `${location.origin}${location.pathname}#${LINK}=${encodeURIComponent(name)}.${letters(deflated)}`;
+// A link to this page with theories in it: #theory=NAME.TEXT&theory=.., each text in UTF-8, deflated.
+export async function linkOf(theories) {
+  const parts = theories.map(async ({ name, text }) => {
+    const deflated = await through(new TextEncoder().encode(text), new CompressionStream('deflate-raw'));
+    return `${LINK}=${encodeURIComponent(name)}.${letters(deflated)}`;
+  });
+  return `${location.origin}${location.pathname}#${(await Promise.all(parts)).join('&')}`;
 }
 
-// The theory that a link's fragment holds, or null.
+// The theories that a link's fragment holds; none where one of them can't be read, or they hold too much together.
 export async function linked(fragment) {
-  const found = new RegExp(`^#${LINK}=([^.]+)\\.([\\w-]+)$`).exec(fragment);
-  if (!found) return null;
-  try {
-    const inflated = await through(bytesOf(found[2]), new DecompressionStream('deflate-raw'));
-    return { name: decodeURIComponent(found[1]), text: new TextDecoder('utf-8', { fatal: true }).decode(inflated) };
-  } catch (error) {
-    return null;
+  const found = [];
+  let room = LINKED;
+  for (const part of fragment.slice(1).split('&').slice(0, MOST)) {
+    const [, name, data] = new RegExp(`^${LINK}=([^.]+)\\.([\\w-]+)$`).exec(part) ?? [];
+    try {
+      const inflated = name && await through(bytesOf(data), new DecompressionStream('deflate-raw'), room);
+      if (!inflated) return [];
+      room -= inflated.length;
+      found.push({ name: decodeURIComponent(name), text: new TextDecoder('utf-8', { fatal: true }).decode(inflated) });
+    } catch (error) {
+      return [];
+    }
   }
+  return found;
 }

@@ -339,8 +339,8 @@ def begins(program, page):
 def theory_of(name):
     """A theory of examples/theories, by the clients' own reader."""
     sys.path.insert(0, str(HERE.parent / "clients"))
-    from holls.text import cut
-    return name, [command.text for command in cut((THEORIES / f"{name}.hol").read_text()).commands]
+    from holls.check import sent
+    return name, sent([str(THEORIES / f"{name}.hol")])[name]
 
 
 def cases(program):

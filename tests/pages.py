@@ -2,7 +2,7 @@
 """Checks the pages, and makes what they say of the definitions from these.
 
     python3 tests/pages.py            checks; the last line is 'pages: N passed, M failed'
-    python3 tests/pages.py --write    writes the lists of docs/DEFINITIONS.md, the counts of README.md and the lines of docs/GATE.md, and then checks
+    python3 tests/pages.py --write    writes the lists of docs/DEFINITIONS.md, the counts of README.md, and the lines of docs/GATE.md, and then checks
 
 The definitions that have to be believed are those that the contracts of some functions name, and what these name, and so on (tests/antt.py). They
 stand in three tiers, each without what stands in those before. tests/definitions.txt has sentences for files and definitions; where it has none,
@@ -12,6 +12,8 @@ import argparse
 import dataclasses
 import pathlib
 import re
+import shutil
+import subprocess
 import sys
 import tempfile
 
@@ -29,6 +31,8 @@ README = ROOT / "README.md"
 WIDTH = 120
 LONGEST_LINE = 160
 LARGEST_README = 10_240
+# Where README says how many places make a theorem, in all and in hol_kernel.
+MAKERS = re.compile(r"(theorems are made in )\d+( places,\s+)\d+(\s+of\s+them\s+in\s+hol_kernel)")
 BEGIN, END = "<!-- Made by tests/pages.py --write, from here -->", "<!-- to here. -->"
 
 
@@ -289,6 +293,21 @@ def with_rows(text, rows):
     return "\n".join(lines)
 
 
+def codes():
+    """Each crate's code, without comments."""
+    files = {crate.name: sorted(crate.glob("src/**/*.rt")) for crate in CRATES.iterdir()}
+    return {crate: "".join(re.sub(r"//[^\n]*", "", path.read_text(encoding="utf-8")) for path in paths) for crate, paths in files.items()}
+
+
+def with_makers(text):
+    """The README with the number of calls of `Thm::closed`, by which alone a theorem is made that is no copy."""
+    calls = {crate: code.count("Thm::closed(") for crate, code in codes().items()}
+    text, found = MAKERS.subn(rf"\g<1>{sum(calls.values())}\g<2>{calls['hol_kernel']}\g<3>", text)
+    if found != 1:
+        raise antt.Unread("README.md doesn't say, or says twice, in how many places theorems are made")
+    return text
+
+
 # ---- checks of pages
 
 
@@ -405,7 +424,7 @@ def definitions_checks(write):
     made = Definitions()
     pages = {
         PAGE: with_lists(PAGE.read_text(encoding="utf-8"), made.page()),
-        README: with_rows(README.read_text(encoding="utf-8"), made.rows()),
+        README: with_makers(with_rows(README.read_text(encoding="utf-8"), made.rows())),
         GATE: with_lists(GATE.read_text(encoding="utf-8"), counting.table()),
     }
     yield check("sentences", made.faults())
@@ -417,6 +436,16 @@ def definitions_checks(write):
     yield check("wrong bodies", counting.misfits())
 
 
+def kit_faults():
+    """Where the README names another toolchain than the one that is here; there may be none."""
+    if shutil.which("rt"):
+        kit = subprocess.run(["rt", "version"], capture_output=True, text=True, check=True).stdout.strip()
+        text = README.read_text(encoding="utf-8")
+        for name in (kit, kit.split()[0]):
+            if f"`{name}`" not in text:
+                yield f"the toolchain is `{name}`, which isn't the one that README.md names"
+
+
 def page_checks():
     pages = sorted(p for folder in (".", "docs", "bench", "examples", "tests", "clients") for p in (ROOT / folder).glob("*.md"))
     for page in pages:
@@ -424,6 +453,9 @@ def page_checks():
         for name, faults in (("lines", long_lines), ("links", broken_links), ("paths", missing_paths), ("quotes", stale_quotes)):
             yield check(f"{page.relative_to(ROOT)}, {name}", faults(page, text))
     size = README.stat().st_size
+    yield check("README.md, toolchain", kit_faults())
+    unsafe = {crate: found for crate, code in codes().items() if (found := len(re.findall(r"\bunsafe\b", code)))}
+    yield check("README.md, the one `unsafe`", [] if unsafe == {"hol_mark": 1} else [f"the word stands in {unsafe}"])
     yield check("README.md, size", [f"{size} bytes, and at most {LARGEST_README}"] if size > LARGEST_README else [])
 
 

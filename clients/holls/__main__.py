@@ -1,38 +1,39 @@
-"""The command line: `holls check FILE..`, `holls search QUERY..`, `holls prove FILE:LINE`, `holls page` and `holls lsp`."""
+"""The command line: `holls check FILE..`, `holls search QUERY..`, `holls prove FILE:LINE`, `holls repl`, `holls export`, `holls import`,
+`holls page` and `holls lsp`."""
 
 from __future__ import annotations
 
 import argparse
+import importlib
 import os
 import sys
 
-from holls import check, page, searching
-from holls.prover import command as prove
+KINDS = {
+    "check": ("holls.check", "check files: status 0 where all is proved"),
+    "search": ("holls.searching", "find theorems by name and by what they state"),
+    "prove": ("holls.prover.command", "find a proof of the goal that is open at a line of a file"),
+    "repl": ("holls.repl", "a prompt with HOL Light's habits: goals, steps, undo, and a file in the end"),
+    "export": ("holls.exchange.exporting", "write files as OCaml that HOL Light runs, or let it check them"),
+    "import": ("holls.exchange.importing", "bring theorems of HOL Light over, from a recorded run"),
+    "expand": ("holls.spelling", "print a file as the program reads it, without notation"),
+    "write": ("holls.spelling", "print a plain file in the notation that it declares or imports"),
+    "page": ("holls.page", "open the page in the browser: an editor, goals and a first hour"),
+    "lsp": ("holls.lsp.bridge", "speak the Language Server Protocol on standard input and output"),
+}
+"""The commands, each with the module that has its words and carries it out. No other module is loaded."""
 
 
 def main() -> int:
     """Runs the command that the words name."""
     words = argparse.ArgumentParser(prog="holls", description="Checks files of hol-serve's commands, and serves editors.")
     kinds = words.add_subparsers(dest="kind", metavar="COMMAND", required=True)
-    check.add_words(kinds.add_parser("check", help="check files: status 0 where all is proved"))
-    searching.add_words(kinds.add_parser("search", help="find theorems by name and by what they state"))
-    prove.add_words(kinds.add_parser("prove", help="find a proof of the goal that is open at a line of a file"))
-    page.add_words(kinds.add_parser("page", help="open the page in the browser: an editor, goals and a first hour"))
-    bridge = kinds.add_parser("lsp", help="speak the Language Server Protocol on standard input and output")
-    bridge.add_argument("--server", metavar="PROGRAM", help="the program hol_serve")
-    bridge.add_argument("--seconds", type=int, default=120, help="how long one command may take (120)")
+    for kind, (module, text) in KINDS.items():
+        parser = kinds.add_parser(kind, help=text)
+        if sys.argv[1:2] == [kind]:
+            importlib.import_module(module).add_words(parser)
     given = words.parse_args()
     sys.stdout.reconfigure(errors="backslashreplace")
-    if given.kind == "check":
-        return check.main(given)
-    if given.kind == "search":
-        return searching.main(given)
-    if given.kind == "prove":
-        return prove.main(given)
-    if given.kind == "page":
-        return page.main(given)
-    from holls.lsp import bridge as editor
-    return editor.main(given)
+    return importlib.import_module(KINDS[given.kind][0]).main(given)
 
 
 def run() -> int:

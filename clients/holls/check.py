@@ -9,13 +9,14 @@ import sys
 import time
 from typing import Dict, List, Sequence, Union
 
-from holls import checking, files, graph, server, words
+from holls import checking, disk, farm, files, graph, server, words
 from holls.checking import Basis, Unit
 from holls.files import File
 from holls.findings import Finding, Severity, findings
 from holls.manual import PRELUDE
 from holls.projects import SUFFIX, Projects
 from holls.protocol import Made
+from holls.say import complain, say
 
 FAILED, BROKEN = 1, 2
 PROGRESS_SECONDS = 0.2
@@ -33,32 +34,43 @@ def add_words(parser: argparse.ArgumentParser) -> None:
     parser.add_argument("--axioms", action="store_true", help="also list on which axioms and definitions each theorem rests")
     parser.add_argument("--no-axioms", action="store_true", help="take it for an error that a theorem rests on an axiom of a file")
     parser.add_argument("--allow-axiom", action="append", default=[], metavar="NAME", help="but not on this one; may be given again")
+    parser.add_argument("--within", action="append", default=[], metavar="DIR",
+                        help="take no theory from outside of this folder, whatever a project file says; may be given again")
+    parser.add_argument("--quiet", action="store_true", help="write nothing of a file in which all is accepted")
     parser.add_argument("--json", action="store_true", help="one JSON object a line")
     parser.add_argument("--seconds", type=int, default=120, help="how long one command may take (120)")
+    farm.add_words(parser)
 
 
 def main(given: argparse.Namespace) -> int:
     """Checks the files: 0 where all commands are accepted and no proof is open, 1 where not, 2 where nothing can be checked."""
     try:
-        units = checking.units(ordered(given.files))
+        units = farm.named(given, checking.units(ordered(given.files, given.within)))
         program = server.find(given.server)
-    except (CannotCheck, server.NoServer) as error:
-        print("holls: %s" % error, file=sys.stderr)
+        limited = farm.words(program, given)
+        if given.ninja:
+            farm.write_plan(given, units, program)
+            return 0
+    except (CannotCheck, server.NoServer, farm.BadWords) as error:
+        complain(error)
         return BROKEN
     sent = [unit for unit in units if unit.file.is_sent]
-    pool = checking.Pool(sent, program, given.seconds, given.axioms or given.no_axioms)
-    pool.start()
-    shown = _JsonShow(given) if given.json else _Show(given)
+    memory = farm.Memory(given, program)
+    memory.recall(sent)
+    left = [unit for unit in sent if unit.recalled is None]
+    checking.Pool(left, limited, given.seconds, given.axioms or given.no_axioms, given.jobs).start()
+    shown = _JsonShow(given, memory) if given.json else _Show(given, memory)
     wrong = 0
     for unit in units:
         if unit in sent:
             _wait(unit, sent)
         wrong += shown.unit(unit)
+    shown.total(units, wrong)
     for name in _no_axioms(given.allow_axiom, units):
-        print("holls: warning: --allow-axiom %s lets nothing pass: none of these files has an axiom of that name" % name, file=sys.stderr)
+        complain("warning: --allow-axiom %s lets nothing pass: none of these files has an axiom of that name" % name)
     failures = list(dict.fromkeys(unit.failure for unit in units if unit.failure))
     for failure in failures:
-        print("holls: %s" % failure, file=sys.stderr)
+        complain(failure)
     return BROKEN if failures else FAILED if wrong else 0
 
 
@@ -86,11 +98,14 @@ def _wait(unit: Unit, units: Sequence[Unit]) -> None:
         sys.stderr.flush()
 
 
-def ordered(paths: Sequence[str]) -> Dict[str, List[File]]:
-    """By projects, the files that are named and those that they import, each after those that it imports."""
-    projects = Projects()
+def ordered(paths: Sequence[str], within: Sequence[str] = ()) -> Dict[str, List[File]]:
+    """By projects, the files that are named and those that they import, each after those that it imports. With `within` none of them
+    lies outside of these folders."""
+    projects = Projects(within)
     named: Dict[str, List[File]] = {}
     for path in _distinct(paths):
+        if within and not any(disk.is_within(path, folder) for folder in within):
+            raise CannotCheck("%s lies outside of %s, which --within names" % (path, " and ".join(within)))
         named.setdefault(projects.of(path).key, []).append(read(path))
     for root, own in named.items():
         _one_of_each_name(own)
@@ -108,7 +123,16 @@ def ordered(paths: Sequence[str]) -> Dict[str, List[File]]:
                 return str(error)
 
         named[root] = graph.ordered(graph.with_imports(own, load))
+        for file in named[root]:
+            file.neighbours = project.paths
     return named
+
+
+def sent(paths: Sequence[str]) -> Dict[str, List[str]]:
+    """What is sent of files, and of those that they import, by the names of their theories, each after those that it imports."""
+    return {
+        file.theory.name: [command.text for number, command in enumerate(file.commands) if not file.is_declaration(number)]
+        for files_of in ordered(paths).values() for file in files_of}
 
 
 def _is_below(path: str) -> bool:
@@ -120,14 +144,33 @@ def _distinct(paths: Sequence[str]) -> List[str]:
     """The files that are named, each once, and those in the folders."""
     found: Dict[str, str] = {}
     for path in paths:
-        below = [path]
-        if os.path.isdir(path):
-            below = sorted(os.path.join(folder, name) for folder, _, names in os.walk(path) for name in names if name.endswith(SUFFIX))
-            if not below:
-                raise CannotCheck("no file NAME%s is in %s or below" % (SUFFIX, path))
+        below = _below(path) if os.path.isdir(path) else [path]
+        if not below:
+            raise CannotCheck("no file NAME%s is in %s or below" % (SUFFIX, path))
         for one in below:
             found.setdefault(os.path.abspath(one), one)
     return list(found.values())
+
+
+def _below(path: str) -> List[str]:
+    """The files of theories in a folder and below. What has such a name and is no regular file is named and passed over."""
+    found: List[str] = []
+    waiting = [path]
+    while waiting:
+        folder = waiting.pop()
+        try:
+            with os.scandir(folder) as entries:
+                every = sorted(entries, key=lambda entry: entry.name)
+        except OSError as error:
+            complain("%s is passed over: it can't be looked into: %s" % (folder, error.strerror or error))
+            continue
+        waiting += [entry.path for entry in reversed(every) if disk.is_folder(entry)]
+        for entry in every:
+            if entry.name.endswith(SUFFIX) and disk.is_regular(entry):
+                found.append(entry.path)
+            elif entry.name.endswith(SUFFIX) and not disk.is_folder(entry):
+                complain("%s is passed over: it is no regular file" % entry.path)
+    return sorted(found)
 
 
 def _one_of_each_name(own: Sequence[File]) -> None:
@@ -142,11 +185,9 @@ def _one_of_each_name(own: Sequence[File]) -> None:
 def read(path: str) -> File:
     """A file on disk."""
     try:
-        with open(path, "rb") as stream:
-            data = stream.read()
-    except OSError as error:
-        raise CannotCheck("%s can't be read: %s" % (path, error.strerror or error)) from None
-    return files.read(path, data)
+        return files.read(path, disk.read(path))
+    except disk.CannotRead as error:
+        raise CannotCheck("%s %s" % (path, error)) from None
 
 
 def _is_wrong(finding: Finding) -> bool:
@@ -156,17 +197,20 @@ def _is_wrong(finding: Finding) -> bool:
 class _Show:
     """Writes what there is to say, in lines for people."""
 
-    def __init__(self, given: argparse.Namespace) -> None:
+    def __init__(self, given: argparse.Namespace, memory: farm.Memory) -> None:
+        self.memory = memory
         self.lists_axioms, self.allows = given.axioms, set(given.allow_axiom)
-        self.forbids = given.no_axioms
+        self.forbids, self.is_quiet = given.no_axioms, given.quiet
 
     def unit(self, unit: Unit) -> int:
         """Writes what there is to say of a file. Answers how many errors there are."""
-        said = findings(unit.file)
+        said = findings(unit.file) if unit.recalled is None else unit.recalled
         for finding in said:
             kind = "error" if _is_wrong(finding) else finding.severity.name.lower()
             self.finding(unit.file, finding, kind)
         wrong = sum(_is_wrong(finding) for finding in said)
+        if not wrong:
+            self.memory.keep(unit, said)
         for basis in unit.bases:
             if self.lists_axioms:
                 self.basis(unit.file, basis)
@@ -174,7 +218,7 @@ class _Show:
             if bad:
                 self.bad_axioms(unit.file, basis, bad)
             wrong += bool(bad)
-        self.count(unit.file, wrong, unit.failure is not None)
+        self.count(unit, wrong)
         sys.stdout.flush()
         return wrong
 
@@ -186,20 +230,32 @@ class _Show:
     def finding(self, file: File, finding: Finding, kind: str) -> None:
         """A finding."""
         line, column = file.lines.column(finding.start)
-        print("%s:%d:%d: %s: %s" % (file.path, line + 1, column + 1, kind, finding.text))
+        say("%s:%d:%d: %s: %s" % (file.path, line + 1, column + 1, kind, finding.text))
 
     def basis(self, file: File, basis: Basis) -> None:
         """On what a theorem rests."""
-        print("%s:%d: %s %s" % (file.path, basis.line, basis.theorem, words.rests(basis.items)))
+        say("%s:%d: %s %s" % (file.path, basis.line, basis.theorem, words.rests(basis.items)))
 
     def bad_axioms(self, file: File, basis: Basis, bad: List[str]) -> None:
         """A theorem rests on an axiom that isn't allowed."""
-        print("%s:%d:1: error: %s" % (file.path, basis.line, _resting(basis, bad)))
+        say("%s:%d:1: error: %s" % (file.path, basis.line, _resting(basis, bad)))
 
-    def count(self, file: File, wrong: int, has_failed: bool) -> None:
+    def count(self, unit: Unit, wrong: int) -> None:
         """The last line of a file; where its server failed, it isn't said that all is accepted."""
+        file, has_failed = unit.file, unit.failure is not None
+        if self.is_quiet and not wrong and not has_failed:
+            return
         outcome = _count(wrong, "error") if wrong else "not checked to the end" if has_failed else "all accepted"
-        print("%s: %s, %s, %s" % (file.path, _count(len(file.commands), "command"), _count(_theorems(file), "theorem"), outcome))
+        axioms = _made_by(unit, "new_axiom")
+        parts = [_count(len(file.commands), "command"), _count(_made_by(unit, "qed"), "theorem")] + ([_count(axioms, "axiom")] if axioms else [])
+        say("%s: %s, %s" % (file.path, ", ".join(parts), outcome))
+
+    def total(self, units: Sequence[Unit], wrong: int) -> None:
+        """The last line of all, where there are several files."""
+        if len(units) > 1 and not self.is_quiet:
+            parts = [_count(len(units), "file"), _count(sum(len(unit.file.commands) for unit in units), "command"),
+                     _count(sum(_made_by(unit, "qed") for unit in units), "theorem"), _count(wrong, "error")]
+            say("in all: " + ", ".join(parts))
 
 
 class _JsonShow(_Show):
@@ -208,9 +264,12 @@ class _JsonShow(_Show):
     def finding(self, file: File, finding: Finding, kind: str) -> None:
         """A finding."""
         start, end = file.lines.column(finding.start), file.lines.column(finding.end)
-        print(json.dumps({
+        told = {
             "file": file.path, "line": start[0] + 1, "column": start[1] + 1, "end_line": end[0] + 1, "end_column": end[1] + 1,
-            "severity": kind, "text": finding.text}))
+            "severity": kind, "text": finding.text}
+        command = None if finding.number is None else file.commands[finding.number]
+        is_notation = command is not None and command is not command.as_written and command.error is None
+        print(json.dumps(dict(told, plain=command.text) if is_notation else told))
 
     def basis(self, file: File, basis: Basis) -> None:
         """On what a theorem rests."""
@@ -222,10 +281,14 @@ class _JsonShow(_Show):
             "file": file.path, "line": basis.line, "column": 1, "end_line": basis.line, "end_column": 2, "severity": "error",
             "text": _resting(basis, bad)}))
 
-    def count(self, file: File, wrong: int, has_failed: bool) -> None:
+    def count(self, unit: Unit, wrong: int) -> None:
         """The last line of a file."""
-        more = {"failed": True} if has_failed else {}
-        print(json.dumps(dict({"file": file.path, "commands": len(file.commands), "theorems": _theorems(file), "errors": wrong}, **more)))
+        more = {"failed": True} if unit.failure is not None else {}
+        counts = {"commands": len(unit.file.commands), "theorems": _made_by(unit, "qed"), "axioms": _made_by(unit, "new_axiom"), "errors": wrong}
+        print(json.dumps(dict({"file": unit.file.path}, **counts, **more)))
+
+    def total(self, units: Sequence[Unit], wrong: int) -> None:
+        """Nothing: who reads the lines can count them."""
 
 
 def _resting(basis: Basis, bad: List[str]) -> str:
@@ -236,6 +299,9 @@ def _count(number: int, what: str) -> str:
     return "%d %s%s" % (number, what, "" if number == 1 else "s")
 
 
-def _theorems(file: File) -> int:
-    entries = [file.entry(number) for number, command in enumerate(file.commands) if command.word == "qed"]
-    return sum(bool(entry and isinstance(entry.report, Made)) for entry in entries)
+def _made_by(unit: Unit, word: str) -> int:
+    """How many commands of a kind made what they are for."""
+    numbers = [number for number, command in enumerate(unit.file.commands) if command.word == word]
+    if unit.recalled is not None:  # All was accepted.
+        return len(numbers)
+    return sum(bool(entry and isinstance(entry.report, Made)) for entry in map(unit.file.entry, numbers))

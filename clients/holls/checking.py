@@ -11,6 +11,7 @@ from typing import Callable, Dict, List, Optional, Sequence, Set, Tuple
 from holls import graph, protocol
 from holls.difference import REMOVE, REPLACE
 from holls.files import File
+from holls.findings import Finding
 from holls.protocol import Made
 from holls.session import Session
 from holls.sweep import Sweep, is_known
@@ -30,28 +31,39 @@ class Basis:
 
 @dataclass(eq=False)
 class Unit:
-    """A file that is to be checked, and those that it imports, in order. `failure` says why nothing can be said of it."""
+    """A file that is to be checked, and those that it imports, in order. `failure` says why nothing can be said of it.
+
+    Units of one `group` hang together by imports, and all fit into one server; a unit without one may be taken by any.
+    `recalled` is what there was to say of it when all of it was accepted before, where it isn't run again.
+    """
 
     file: File
     root: str
     imports: List[File]
     bases: List[Basis] = field(default_factory=list)
     failure: Optional[str] = None
+    group: Optional[int] = None
+    recalled: Optional[List[Finding]] = None
     done: threading.Event = field(default_factory=threading.Event)
+
+    def __post_init__(self) -> None:
+        self.files = set(self.imports + [self.file])
+        self._commands = sum(len(file.commands) for file in self.files)
 
     def cost(self, standing: Set[File]) -> int:
         """How many commands a server has to run in which some files stand already."""
-        return sum(len(file.commands) for file in self.imports + [self.file] if file not in standing)
+        return self._commands - sum(len(file.commands) for file in standing if file in self.files)
 
 
 class Pool:
-    """The units that wait, and the servers that take them."""
+    """The units that wait, and the servers that take them. A group is checked by one server, so that what it imports is run once."""
 
-    def __init__(self, units: Sequence[Unit], program: List[str], seconds: int, with_bases: bool) -> None:
+    def __init__(self, units: Sequence[Unit], program: List[str], seconds: int, with_bases: bool, jobs: Optional[int] = None) -> None:
         self.waiting = list(units)
         self.program, self.seconds, self.with_bases = program, seconds, with_bases
         self._lock = threading.Lock()
-        number = min(len(units), max(1, os.cpu_count() or 1))
+        self._taken: Dict[int, object] = {}
+        number = min(len({id(unit) if unit.group is None else unit.group for unit in units}), jobs or max(1, os.cpu_count() or 1))
         self._threads = [threading.Thread(target=_Worker(self).run, daemon=True) for _ in range(number)]
 
     def start(self) -> None:
@@ -59,13 +71,16 @@ class Pool:
         for thread in self._threads:
             thread.start()
 
-    def take(self, root: str, standing: Set[File]) -> Optional[Unit]:
-        """The unit that costs least where some files of a project stand: of several the first one."""
+    def take(self, worker: object, root: str, standing: Set[File]) -> Optional[Unit]:
+        """The unit that costs a worker least, where some files of a project stand: of several the first one. None where others have all."""
         with self._lock:
-            if not self.waiting:
-                return None
-            unit = min(self.waiting, key=lambda one: one.cost(standing if one.root == root else set()))
-            self.waiting.remove(unit)
+            free = [unit for unit in self.waiting if unit.group is None or self._taken.get(unit.group, worker) is worker]
+            own = [unit for unit in free if unit.group is not None and unit.group in self._taken]
+            unit = min(own or free, key=lambda one: one.cost(standing if one.root == root else set()), default=None)
+            if unit is not None:
+                self.waiting.remove(unit)
+                if unit.group is not None:
+                    self._taken[unit.group] = worker
             return unit
 
 
@@ -84,9 +99,14 @@ class _Worker:
     def run(self) -> None:
         """Until no unit waits."""
         while True:
-            unit = self.pool.take(self.root, set(self.standing))
+            unit = self.pool.take(self, self.root, set(self.standing))
             if unit is None:
                 break
+            if len(unit.files) > protocol.THEORIES:
+                unit.failure = "%s hangs together with %d files by imports, and a server holds %d theories" % (
+                    unit.file.path, len(unit.files), protocol.THEORIES)
+                unit.done.set()
+                continue
             try:
                 unit.failure = self._check(unit)
             except Exception as error:  # noqa: BLE001: told as this file's failure, and the others go on
@@ -102,11 +122,7 @@ class _Worker:
         """Asks for all of a file. Answers why nothing can be said of it, or None."""
         if self.session is None:
             self.session = Session(self.pool.program, self.events, SERVED, self.sweep, lambda: None, self.pool.seconds)
-        files = unit.imports + [unit.file]
-        if len(files) > protocol.THEORIES:
-            return "%s hangs together with %d files by imports, and a server holds %d theories" % (
-                unit.file.path, len(files), protocol.THEORIES)
-        self.standing = joined(self.standing if self.root == unit.root else [], files)
+        self.standing = joined(self.standing if self.root == unit.root else [], unit.imports + [unit.file])
         self.root = unit.root
         self.sweep.begin([unit.file])
         self.session.want([file.theory for file in self.standing])
@@ -167,5 +183,29 @@ def units(files: Dict[str, List[File]]) -> List[Unit]:
     made: List[Unit] = []
     for root, own in files.items():
         by_name = {file.theory.name: file for file in own}
-        made += [Unit(file, root, graph.all_imports(file, by_name)) for file in own]
+        fresh = [Unit(file, root, graph.all_imports(file, by_name)) for file in own]
+        _group(fresh, len(made))
+        made += fresh
     return made
+
+
+def _group(units: Sequence[Unit], first: int) -> None:
+    """Numbers the groups of a project's units, from a number on. One that is too large for a server isn't one."""
+    parts: Dict[File, File] = {}
+
+    def top(file: File) -> File:
+        while parts.get(file, file) is not file:
+            parts[file] = parts.get(parts[file], parts[file])
+            file = parts[file]
+        return file
+
+    for unit in units:
+        for other in unit.imports:
+            parts[top(other)] = top(unit.file)
+    members: Dict[File, List[Unit]] = {}
+    for unit in units:
+        members.setdefault(top(unit.file), []).append(unit)
+    for number, together in enumerate(members.values(), first):
+        if len(set().union(*(unit.files for unit in together))) <= protocol.THEORIES:
+            for unit in together:
+                unit.group = number

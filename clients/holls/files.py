@@ -3,11 +3,13 @@
 from __future__ import annotations
 
 import os
-from typing import Any, List, Optional, Sequence, Tuple
+from bisect import bisect_right
+from typing import Any, Callable, Dict, List, Mapping, Optional, Sequence, Tuple
 
 from holls import notation, protocol
 from holls.places import Lines
 from holls.projects import SUFFIX
+from holls.sent import Notation
 from holls.text import Blemish, Command, Cut, cut
 from holls.theory import Entry, Theory
 
@@ -19,11 +21,12 @@ def theory_name(path: str) -> str:
 
 
 class File:
-    """A file. Each command has a place in the theory, unless it is too long or one too many.
+    """A file. Each command has a place in the theory, unless it is too long or one too many, or declares notation.
 
-    `blemishes` come from the file alone, `context` from what stands beside it; with `is_shadowed` there is no room for it in the server,
+    `notation` is what its commands are in notation, by what the files that it imports declare. `blemishes` come from the file alone, `context` from what stands beside it; with `is_shadowed` there is no room for it in the server,
     or another file is its theory. `imports` are the theories that it imports; those of `refused` are part of a circle, and aren't carried out.
-    `written` is what the module `names` keeps of it, `hints` what `findings` does.
+    `written` is what the module `names` keeps of it, `hints` what `findings` does; `undecoded` says where
+    its bytes are no text any more, and `neighbours` gives the paths of its project.
     """
 
     def __init__(self, path: str) -> None:
@@ -32,11 +35,15 @@ class File:
         self._is_named = protocol.is_name(self.theory.name)
         self.blemishes: List[Blemish] = []
         self.context: List[Blemish] = []
+        self._told: Tuple[List[Blemish], int, Dict[Tuple[int, int], str]] = ([], 0, {})
         self.is_shadowed = False
         self.imports: Tuple[str, ...] = ()
         self.refused: Tuple[str, ...] = ()
-        self.written: Optional[Tuple[Cut, List[Any]]] = None
+        self.written: Optional[Tuple[Notation, List[Any]]] = None
         self.hints: Optional[List[Any]] = None
+        self.undecoded: Optional[Blemish] = None
+        self.neighbours: Callable[[], Sequence[str]] = lambda: ()
+        self._imported: Mapping[str, Notation] = {}
         self._slots: List[Optional[int]] = []
         self.take("")
 
@@ -45,22 +52,47 @@ class File:
         self.lines = Lines(text)
         self.hints = None
         self.cut: Cut = cut(text)
-        self.imports = tuple(dict.fromkeys(command.name for command in self.commands if command.word == "import" and command.name))
+        self.starts = [command.start for command in self.cut.commands]
+        self.import_commands: Dict[str, List[Command]] = {}
+        for command in self.cut.commands:
+            if command.word == "import" and command.name:
+                self.import_commands.setdefault(command.name, []).append(command)
+        self.imports = tuple(self.import_commands)
+        self._read()
+
+    def know(self, imported: Mapping[str, Notation]) -> None:
+        """Takes what the files that it imports declare, by the names of their theories."""
+        is_same = imported.keys() == self._imported.keys() and all(imported[name].is_like(self._imported[name]) for name in imported)
+        self._imported = imported
+        if not is_same:
+            self._read()
+
+    def copy(self) -> "File":
+        """The same file, which no edit of this one changes."""
+        other = File(self.path)
+        other._imported, other.refused = self._imported, self.refused
+        other.take(self.lines.text)
+        return other
+
+    def _read(self) -> None:
+        """Has its commands as they are sent."""
+        known = {name: one for name, one in self._imported.items() if name in self.imports and name not in self.refused}
+        self.notation = Notation(self.cut.commands, known)
+        self.hints = None
         self._want()
 
     def refuse(self, imports: Sequence[str]) -> None:
         """Takes which imports aren't carried out, since they are part of a circle."""
         if self.refused != tuple(imports):
             self.refused = tuple(imports)
-            blemishes = self.blemishes
-            self._want()
-            self.blemishes = blemishes  # None comes of an import.
+            self._read()
 
     def _want(self) -> None:
         """Has the theory want the commands. A hidden `oops` ends a failed proof before a command that can't stand in one."""
-        self.blemishes = list(self.cut.blemishes)
+        cut_off = self.undecoded
+        self.blemishes = [blemish for blemish in self.cut.blemishes if blemish.is_error or not cut_off] + ([cut_off] if cut_off else [])
         self._check_name()
-        fitting = [self._fits(command) for command in self.commands]
+        fitting = [not self.is_declaration(number) and self._fits(command) for number, command in enumerate(self.commands)]
         texts = self._texts(fitting, True)
         if len(texts) > protocol.COMMANDS:
             texts = self._texts(fitting, False)
@@ -70,8 +102,8 @@ class File:
 
     @property
     def commands(self) -> List[Command]:
-        """The commands in the order of the file."""
-        return self.cut.commands
+        """The commands in the order of the file, as they are sent."""
+        return self.notation.commands
 
     @property
     def is_sent(self) -> bool:
@@ -82,6 +114,10 @@ class File:
         """A command's place in the theory."""
         slot = self._slots[number]
         return slot if slot is not None and slot < protocol.COMMANDS and self.is_sent else None
+
+    def is_declaration(self, number: int) -> bool:
+        """Whether a command declares notation, so that the program never gets it."""
+        return number in self.notation.declared
 
     def entry(self, number: int) -> Optional[Entry]:
         """What is known of a command; None where it isn't sent."""
@@ -98,7 +134,10 @@ class File:
         command = self.commands[number]
         if command.word != "import":
             return None
-        return next((blemish.text for blemish in self.context if (blemish.start, blemish.end) == (command.start, command.end)), None)
+        if self._told[0] is not self.context or self._told[1] != len(self.context):
+            told = {(blemish.start, blemish.end): blemish.text for blemish in reversed(self.context)}
+            self._told = self.context, len(self.context), told
+        return self._told[2].get((command.start, command.end))
 
     def proof_begin(self, number: int) -> int:
         """The command at which the proof that a command stands in begins: the last one above that can't stand in a proof, or it."""
@@ -108,12 +147,7 @@ class File:
 
     def number_at(self, place: int) -> Optional[int]:
         """The last command that begins before a place, or at it."""
-        found = None
-        for number, command in enumerate(self.commands):
-            if command.start > place:
-                break
-            found = number
-        return found
+        return bisect_right(self.starts, place) - 1 if self.starts and self.starts[0] <= place else None
 
     def covers(self, number: int, place: int) -> bool:
         """Whether a place is in a command or in its `;;`."""
@@ -173,8 +207,8 @@ def read(path: str, data: bytes) -> File:
     try:
         file.take(data.decode("utf-8"))
     except UnicodeDecodeError as error:
-        file.take(data[:error.start].decode("utf-8"))
-        end = len(file.lines.text)
+        text = data[:error.start].decode("utf-8")
         told = "the file is no UTF-8 from here on (byte 0x%02x): save it as UTF-8" % data[error.start]
-        file.blemishes = [blemish for blemish in file.blemishes if blemish.is_error] + [Blemish(end, end + 1, told, True)]
+        file.undecoded = Blemish(len(text), len(text) + 1, told, True)
+        file.take(text)
     return file

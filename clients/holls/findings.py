@@ -8,11 +8,15 @@ from __future__ import annotations
 
 from dataclasses import dataclass
 from enum import IntEnum
-from typing import List, Optional, Tuple
+from functools import lru_cache
+from typing import List, Optional, Sequence, Tuple
 
-from holls import notation, protocol, words
+from holls import declaring, notation, protocol, words
 from holls.files import File
 from holls.protocol import Goals, Lost, Made, Refusal
+from holls.surface.errors import Misread
+from holls.text import REMEMBERED
+from holls.view import View
 
 
 class Severity(IntEnum):
@@ -28,7 +32,8 @@ class Severity(IntEnum):
 class Finding:
     """Something to say of a range of the file. `is_open` marks a proof that is never ended.
 
-    `number` is the command that it is about, where it is about one, and `refusal` its refusal, where that is what is told.
+    `number` is the command that it is about, where it is about one, and `refusal` its refusal, where that is what is told; `undeclared` is an operator, a
+    numeral or a word that no notation here has, and `hiding` a bound variable that has a constant's name, where these are.
     """
 
     start: int
@@ -38,6 +43,8 @@ class Finding:
     is_open: bool = False
     number: Optional[int] = None
     refusal: Optional[Refusal] = None
+    undeclared: Optional[str] = None
+    hiding: Optional[str] = None
 
 
 @dataclass
@@ -73,7 +80,9 @@ class _Walk:
         self.is_certain = True
 
     def step(self, number: int) -> None:
-        """Takes one command's report."""
+        """Takes one command's report. A declaration has none."""
+        if self.file.is_declaration(number):
+            return
         entry = self.file.entry(number)
         report = entry.report if entry else None
         if self.file.is_behind_oops(number):
@@ -112,11 +121,16 @@ class _Walk:
         """A refused command. What follows from an error above is a note, or isn't said."""
         command, proof = self.file.commands[number], self.proof
         is_own = refusal.number in OWN
+        if command.error is not None:
+            self.cause(number, refusal)
+            return
         if not is_own and (not self.is_certain or proof and proof.is_swallowing or self.is_told(number, refusal)):
             return
         start, end, text = words.explain(command.text, refusal, str(proof) if proof else None)
         if refusal.number == protocol.GOALS_REMAIN and proof and proof.last:
-            text += _remaining(proof.last)
+            text += _remaining(View.of(self.file, number), proof.last)
+        if refusal.number == protocol.NAME_TAKEN:
+            text += self.namesake(number, refusal.argument.split(":")[-1])
         cause = self.cause(number, refusal)
         if refusal.number == protocol.IN_A_PROOF and proof:
             proof.is_swallowing = True
@@ -125,8 +139,14 @@ class _Walk:
         elif cause is not None:
             text = "%s (after the error on line %d)" % (text, self.line(cause))
         severity = Severity.ERROR if cause is None else Severity.NOTE
-        first, last = command.place(start), max(command.place(end), command.place(start) + 1)
+        first, last = command.range(start, end)
+        last = max(last, first + 1)
         self.findings.append(Finding(first, last, severity, text, number=number, refusal=refusal))
+
+    def namesake(self, number: int, name: str) -> str:
+        """Where a command above has a name too. By its text alone: what became of it may not be known yet."""
+        other = next((at for at in range(number) if self.file.commands[at].name == name and self.file.commands[at].word in notation.MAKERS), None)
+        return "" if other is None else " (it is named on line %d)" % self.line(other)
 
     def is_told(self, number: int, refusal: Refusal) -> bool:
         """Whether an import's refusal is told by what stands beside the file."""
@@ -154,7 +174,7 @@ class _Walk:
         """Tells of a proof that is open at the end, unless an error of it was told."""
         proof = self.proof
         if self.is_certain and proof and proof.broken is None and not proof.is_swallowing:
-            self.add(proof.number, Severity.WARNING, "the proof of %s is never ended: add qed;; or oops;;" % proof.name, True)
+            self.add(proof.number, Severity.NOTE, "the proof of %s isn't ended yet: add qed;; or oops;;" % proof.name, True)
 
     def add(self, number: int, severity: Severity, text: str, is_open: bool = False) -> None:
         """Says something of a command's first word."""
@@ -167,12 +187,12 @@ class _Walk:
         return self.file.lines.line(self.file.commands[number].start) + 1
 
 
-def _remaining(report: Goals) -> str:
+def _remaining(view: View, report: Goals) -> str:
     """How many goals remain, and the first one."""
     number = len(report.goals)
     if not number:
         return ""
-    shown = report.goals[0].conclusion
+    shown = view.conclusion(report.goals[0])
     return " (%d, the first one: %s)" % (number, shown if len(shown) < 200 else shown[:200] + " ..")
 
 
@@ -201,18 +221,51 @@ def unknown(file: File) -> List[Tuple[int, int, bool]]:
     return found
 
 
+def refused(file: File) -> List[Tuple[int, int]]:
+    """The ranges of commands that weren't accepted, or sent: also those of which nothing is said. Those side by side are one."""
+    found: List[Tuple[int, int]] = []
+    is_last = False
+    for number, command in enumerate(file.commands):
+        entry = file.entry(number)
+        is_refused = not file.is_declaration(number) and (entry is None or isinstance(entry.report, (Refusal, Lost)))
+        if is_refused:
+            found[-1 if is_last else len(found):] = [(found[-1][0] if is_last else command.start, command.end)]
+        is_last = is_refused
+    return found
+
+
 def _form(file: File) -> List[Finding]:
-    """What is wrong with the file's form."""
+    """What is wrong with the file's form, and with its notation."""
     return [
         Finding(blemish.start, blemish.end, Severity.ERROR if blemish.is_error else Severity.WARNING, blemish.text)
-        for blemish in file.blemishes + file.context]
+        for blemish in file.blemishes + file.context + file.notation.blemishes] + [
+        _misread(file, number, command.as_written.range(command.error.start, command.error.end), command.error)
+        for number, command in enumerate(file.commands) if command.error is not None]
+
+
+def _misread(file: File, number: int, where: Tuple[int, int], error: Misread) -> Finding:
+    """What is wrong with a command as notation, with the theories that declare what isn't declared there."""
+    text = error.text + (_declared_by(file, error.unknown) if error.unknown else "")
+    return Finding(*where, Severity.ERROR, text, number=number, undeclared=error.unknown, hiding=error.hiding)
+
+
+def _declared_by(file: File, written: str) -> str:
+    """Words on the theories that declare what is written."""
+    found = [name for name in declaring.theories(file.neighbours(), written) if name != file.theory.name]
+    return "; %s declares it: import it" % " or ".join(found[:3]) if found else ""
 
 
 def _hints(file: File) -> List[Finding]:
     """Words that mean more in HOL Light than here."""
     if file.hints is None:
         file.hints = [
-            Finding(command.place(start), command.place(end), Severity.HINT,
-                    "`%s` is a plain name here: there are no conditionals and no let" % command.text[start:end])
-            for command in file.commands for start, end in notation.plain_words(command.text)]
+            Finding(*command.range(start, end), Severity.HINT,
+                    "`%s` is a plain name here: no theory that this file imports declares notation with it%s" % (
+                        command.text[start:end], _declared_by(file, command.text[start:end])), number=number, undeclared=command.text[start:end])
+            for number, command in enumerate(file.commands) for start, end in _plain_words(command.text)]
     return file.hints
+
+
+@lru_cache(REMEMBERED)
+def _plain_words(text: str) -> Sequence[Tuple[int, int]]:
+    return tuple(notation.plain_words(text))

@@ -6,7 +6,8 @@ import difflib
 from dataclasses import dataclass
 from typing import Iterator, List, Optional, Sequence
 
-from holls import graph, manual, names, notation, protocol, syntax
+from holls import declaring, graph, manual, names, notation, protocol, syntax, words
+from holls.bound import bound_type
 from holls.files import File
 from holls.findings import Finding, Severity
 from holls.names import TACTIC, THEOREM
@@ -30,6 +31,10 @@ def fixes(finding: Finding, file: File, files: Sequence[File], every: Sequence[F
         return list(_last_end(file, finding))
     if finding.refusal is not None:
         return list(_of_refusal(finding, finding.refusal, file, files, every))
+    if finding.undeclared is not None:
+        return list(_declaring(finding.undeclared, file, every))
+    if finding.hiding is not None:
+        return list(_renaming(finding, finding.hiding, file))
     is_behind_open = finding.severity == Severity.ERROR
     return [_before(file, finding.number, word) for word in ("qed", "oops")] if is_behind_open else []
 
@@ -82,8 +87,56 @@ def _of_refusal(finding: Finding, refusal: protocol.Refusal, file: File, files: 
             yield Fix("Replace by %s" % near.lower(), finding.start, finding.end, near.lower())
         if command.word in notation.TACS or command.word in notation.TACTICALS:
             yield Fix("Begin the step by e", finding.start, finding.start, "e ")
+    elif refusal.number == protocol.REFUSED:
+        yield from _type(finding.number, refusal.argument, file)
     elif refusal.number == protocol.GOALS_REMAIN:
         yield Fix("Give the proof up by oops", command.start, command.end, "oops")
+
+
+def _declaring(written: str, file: File, every: Sequence[File]) -> Iterator[Fix]:
+    """The theories that declare notation that is none here, to be imported."""
+    by_name = {other.theory.name: other for other in every}
+    for name in declaring.theories(file.neighbours(), written):
+        if name in by_name and not graph.is_importing(by_name[name], file, by_name):
+            place = _import_place(file)
+            yield Fix("Import %s, which declares %s" % (name, written), place, place, "import %s;;\n" % name)
+
+
+def _renaming(finding: Finding, name: str, file: File) -> Iterator[Fix]:
+    """A quotation with another name for a bound variable, which hides a constant."""
+    command = file.commands[finding.number].as_written
+    opened = command.text.rfind("`", 0, command.offset(finding.start))
+    closed = command.text.find("`", opened + 1)
+    start, end = command.place(opened) + 1, command.place(closed)
+    text = file.lines.text[start:end]
+    fresh = name + "'"
+    while notation.has_name(text, fresh):
+        fresh += "'"
+    yield Fix("Rename %s to %s in this quotation" % (name, fresh), start, end, notation.renamed(text, name, fresh))
+
+
+def _type(number: int, name: str, file: File) -> Iterator[Fix]:
+    """The type that a quotation's variable lacks, where the first goal says what it has to be."""
+    command = file.commands[number]
+    bare = words.bare_variable(command.text, name)
+    goal = _first_goal(number, file) if bare and words.is_alone(command.text, name) else None
+    of = bound_type(goal, "?" if name == "EXISTS_TAC" else "!") if goal else None
+    if of is not None:
+        start, end = command.range(*bare)
+        variable = command.text[slice(*bare)]
+        yield Fix("Write its type: %s:%s" % (variable, of), start, end, "%s:%s" % (variable, of))
+
+
+def _first_goal(number: int, file: File) -> Optional[protocol.Goal]:
+    """The first goal before a command, if that is known."""
+    for above in range(number - 1, -1, -1):
+        entry = file.entry(above)
+        report = entry.report if entry else None
+        if isinstance(report, protocol.Goals):
+            return report.goals[0] if report.goals else None
+        if not isinstance(report, protocol.Refusal):
+            return None
+    return None
 
 
 def _imports(name: str, kind: str, file: File, every: Sequence[File]) -> Iterator[Fix]:

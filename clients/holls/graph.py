@@ -27,29 +27,43 @@ def with_imports(files: Sequence[File], load: Load) -> List[File]:
                 known[name] = found
                 waiting.append(found)
     _refuse_circles(known)
+    share_notation(known.values())
     return list(known.values())
+
+
+def share_notation(files: Iterable[File]) -> None:
+    """Has each file know what those that it imports declare."""
+    by_name: Dict[str, File] = {}
+    for file in files:
+        by_name.setdefault(file.theory.name, file)
+    for file in _in_order(by_name.values(), by_name, _carried_out):
+        know_imports(file, by_name)
+
+
+def know_imports(file: File, by_name: Dict[str, File]) -> None:
+    """Has a file know what those that it imports declare."""
+    file.know({name: by_name[name].notation for name in file.theory.imports if name in by_name})
 
 
 def _refuse_circles(by_name: Dict[str, File]) -> None:
     """Tells of each import that is part of a circle. None of these is carried out, so that the files' order changes nothing."""
-    parts = _parts(by_name)
-    for own, file in by_name.items():
-        refused = [name for name in file.imports if name in parts and parts[name] == parts[own]]
-        file.refuse(refused)
-        for name in refused:
-            circle = _circle(own, name, by_name)
-            tell_import(file, name, "imports go in a circle here: %s; take one of them out" % " imports ".join(circle + circle[:1]))
-
-
-def _parts(by_name: Dict[str, File]) -> Dict[str, str]:
-    """By files' names the name of one that stands for all those that the file imports and that import it, by way of others too.
-
-    After Kosaraju and Sharir: against the imports, from the files that stand last.
-    """
     importers: Dict[str, List[str]] = {}
     for own, file in by_name.items():
         for name in file.imports:
             importers.setdefault(name, []).append(own)
+    parts = _parts(by_name, importers)
+    for own, file in by_name.items():
+        refused = [name for name in file.imports if name in parts and parts[name] == parts[own]]
+        file.refuse(refused)
+        for name, circle in _circles(own, refused, importers, parts).items():
+            tell_import(file, name, "imports go in a circle here: %s; take one of them out" % " imports ".join(circle + circle[:1]))
+
+
+def _parts(by_name: Dict[str, File], importers: Dict[str, List[str]]) -> Dict[str, str]:
+    """By files' names the name of one that stands for all those that the file imports and that import it, by way of others too.
+
+    After Kosaraju and Sharir: against the imports, from the files that stand last.
+    """
     parts: Dict[str, str] = {}
     for file in reversed(_in_order(by_name.values(), by_name, _written)):
         waiting = [file.theory.name]
@@ -61,27 +75,36 @@ def _parts(by_name: Dict[str, File]) -> Dict[str, str]:
     return parts
 
 
-def _circle(own: str, name: str, by_name: Dict[str, File]) -> List[str]:
-    """The shortest circle that begins with an import of one file by another, told from its least name on, as at its other imports."""
-    before: Dict[str, str] = {name: own}
-    waiting = deque([name])
-    while own not in before:
+def _circles(own: str, names: Sequence[str], importers: Dict[str, List[str]], parts: Dict[str, str]) -> Dict[str, List[str]]:
+    """By some imports of a file the shortest circle that begins with each, told from its least name on, as at its other imports.
+
+    Found against the imports, from the file on, until all of them are reached.
+    """
+    after: Dict[str, str] = {}
+    missing, waiting = set(names), deque([own])
+    while missing and waiting:
         last = waiting.popleft()
-        new = [other for other in by_name[last].imports if other in by_name and other not in before]
-        before.update((other, last) for other in new)
-        waiting += new
+        for name in importers.get(last, ()):
+            if name not in after and parts.get(name) == parts[own]:
+                after[name] = last
+                missing.discard(name)
+                waiting.append(name)
+    return {name: _from_least(own, name, after) for name in names}
+
+
+def _from_least(own: str, name: str, after: Dict[str, str]) -> List[str]:
     circle = [own]
-    while circle[0] != name:
-        circle.insert(0, before[circle[0]])
+    while name != own:
+        circle.append(name)
+        name = after[name]
     least = circle.index(min(circle))
     return circle[least:] + circle[:least]
 
 
 def tell_import(file: File, name: str, words: str) -> None:
     """Tells of each import of a theory that it can't be carried out."""
-    for command in file.commands:
-        if command.word == "import" and command.name == name:
-            file.context.append(Blemish(command.start, command.end, words, True))
+    for command in file.import_commands.get(name, ()):
+        file.context.append(Blemish(command.start, command.end, words, True))
 
 
 def ordered(files: Sequence[File]) -> List[File]:

@@ -109,6 +109,17 @@ deftac NAME tac | Names an expression of functions on goals, which then stands w
 """)
 """The commands."""
 
+DECLARATIONS = _entries(r"""
+infixr n op constant | Declares an infix that groups to the right, with a precedence from 1 to 99; without a constant the operator is its name.
+infixl n op constant | Declares an infix that groups to the left, with a precedence from 1 to 99; without a constant the operator is its name.
+type_infixr n op constructor | Declares an infix of types, which groups to the right.
+notation form constant .. | Gives a form its constants: `if`, `list`, `set`, `pair`, `let`, `num`, or `1` for the type of one element.
+sets constant place .. | Says which of a constant's arguments, counted from 0, are shown as `{x | p}` where they are functions; `result`: it makes a set.
+no_notation op | Takes an operator or a form back.
+local declaration | Declares something for this file alone.
+""")
+"""The commands of a file that declare notation, which the program never gets (docs/WRITING.md)."""
+
 PRELUDE = {
     "T_DEF": r"T = ((\p:bool. p) = (\p. p))",
     "AND_DEF": r"(/\) = (\p q. (\f:bool->bool->bool. f p q) = (\f. f T T))",
@@ -146,5 +157,5 @@ TYPES = {"bool": "the truth values, T and F", "ind": "an infinite type (INFINITY
 
 
 def entry(name: str) -> Optional[Entry]:
-    """What there is to say of a function, a tactical, a rule or a command."""
-    return FUNCTIONS.get(name) or TACTICALS.get(name) or RULES.get(name) or COMMANDS.get(name)
+    """What there is to say of a function, a tactical, a rule, a command or a declaration."""
+    return FUNCTIONS.get(name) or TACTICALS.get(name) or RULES.get(name) or COMMANDS.get(name) or DECLARATIONS.get(name)

@@ -10,6 +10,7 @@ from holls import binders, graph, manual, notation
 from holls.files import File
 from holls.protocol import Made
 from holls.text import Command
+from holls.view import View
 
 THEOREM, CONSTANT, TYPE, TACTIC = "theorem", "constant", "type", "function on goals"
 IN_TERMS = (CONSTANT, TYPE)
@@ -50,12 +51,17 @@ class Known:
         """The theory that makes it."""
         return self.file.theory.name if self.file else "the prelude"
 
-    @property
-    def line(self) -> str:
-        """The name with its statement, type or expression."""
+    def shown_in(self, view: View) -> str:
+        """Its statement, type or expression, in the notation of a view."""
+        if self.kind == THEOREM:
+            return view.term(self.shown)
+        return view.type(self.shown) if self.kind == CONSTANT else self.shown
+
+    def line(self, view: View) -> str:
+        """The name with its statement, type or expression, in the notation of a view."""
         if self.kind == TACTIC:
             return "deftac %s %s" % (self.name, self.shown)
-        return "%s%s%s" % (self.name, {THEOREM: ": |- ", CONSTANT: " : ", TYPE: "/"}[self.kind], self.shown)
+        return "%s%s%s" % (self.name, {THEOREM: ": |- ", CONSTANT: " : ", TYPE: "/"}[self.kind], self.shown_in(view))
 
 
 PRELUDE = [Known(THEOREM, name, text) for name, text in manual.PRELUDE.items()] + [
@@ -81,9 +87,9 @@ def blocks(file: File) -> List[Tuple[int, int]]:
 
 def written(file: File) -> List[Written]:
     """The names that a file's commands make, kept until its text changes."""
-    if file.written is None or file.written[0] is not file.cut:
+    if file.written is None or file.written[0] is not file.notation:
         made = [one for first, last in blocks(file) for one in _made_by(file.commands[first], first, last)]
-        file.written = file.cut, made
+        file.written = file.notation, made
     return file.written[1]
 
 
@@ -164,8 +170,7 @@ def place_of_name(command: Command, name: str) -> Tuple[int, int]:
     found = pattern.search(command.text, len(command.word)) if name else None
     if not found:
         return command.start, command.end
-    first, last = command.place(found.start()), command.place(found.end())
-    return first, max(first, last)
+    return command.range(found.start(), found.end())
 
 
 def uses(files: Sequence[File], target: Known) -> Iterator[Tuple[File, int, int]]:
@@ -181,8 +186,7 @@ def uses(files: Sequence[File], target: Known) -> Iterator[Tuple[File, int, int]
             makes = file is target.file and number == target.number
             for found in pattern.finditer(command.text, len(command.word) if command.word == target.name else 0):
                 if _is_use(command, found.start(), target.kind, makes):
-                    first, last = command.place(found.start()), command.place(found.end())
-                    yield file, first, max(first, last)
+                    yield (file, *command.range(found.start(), found.end()))
 
 
 def kind_outside(command: Command, place: int) -> str:

@@ -29,11 +29,13 @@ FORWARD = {
 }
 """The forward rules, and how they are written."""
 
+_FINDS = "the editors' action Find a proof, or `holls prove`, looks for the steps"
+
 ELSEWHERE = {
-    "ASM_MESON_TAC": "", "MESON_TAC": "", "METIS_TAC": "", "ITAUT_TAC": "", "TAUT_TAC": "", "ARITH_TAC": "", "REAL_ARITH_TAC": "",
-    "ABS_TAC": "", "INDUCT_TAC": "", "ASM_ARITH_TAC": "", "CHEAT_TAC": "give the proof up by oops;;, or state it by new_axiom",
+    "ASM_MESON_TAC": _FINDS, "MESON_TAC": _FINDS, "METIS_TAC": _FINDS, "ITAUT_TAC": _FINDS, "TAUT_TAC": _FINDS, "ARITH_TAC": _FINDS,
+    "REAL_ARITH_TAC": "", "ABS_TAC": "", "INDUCT_TAC": "", "ASM_ARITH_TAC": _FINDS, "CHEAT_TAC": "give the proof up by oops;;, or state it by new_axiom",
     "SIMP_TAC": "REWRITE_TAC rewrites, without conditions", "ASM_SIMP_TAC": "ASM_REWRITE_TAC rewrites, without conditions",
-    "COND_CASES_TAC": "there are no conditionals", "BOOL_CASES_TAC": "DISJ_CASES_TAC takes a theorem p \\/ q",
+    "COND_CASES_TAC": "DISJ_CASES_TAC (SPEC `b` EXCLUDED_MIDDLE) and COND_CLAUSES make the two cases", "BOOL_CASES_TAC": "DISJ_CASES_TAC takes a theorem p \\/ q",
     "ASM_CASES_TAC": "DISJ_CASES_TAC takes a theorem p \\/ q", "GEN_REWRITE_TAC": "ONCE_REWRITE_TAC and SUBST1_TAC rewrite one place",
     "SUBST_ALL_TAC": "SUBST1_TAC rewrites the goal's conclusion", "SUBST_TAC": "SUBST1_TAC takes one equation",
     "MATCH_ACCEPT_TAC": "PURE_REWRITE_TAC [th] does it", "CONV_TAC": "BETA_TAC reduces, REWRITE_TAC rewrites",
@@ -124,6 +126,16 @@ def word_ranges(text: str, word: str) -> List[Tuple[int, int]]:
         return []
     pattern = r"(?<![A-Za-z0-9_'])" + re.escape(word) + r"(?![A-Za-z0-9_'])"
     return [found.span() for found in re.finditer(pattern, without_quotations(text))]
+
+
+def has_name(text: str, name: str) -> bool:
+    """Whether a name stands in a text."""
+    return any(found.group() == name for found in _IDENT.finditer(text))
+
+
+def renamed(text: str, name: str, new: str) -> str:
+    """A text with another name wherever one stands."""
+    return _IDENT.sub(lambda found: new if found.group() == name else found.group(), text)
 
 
 def has_tactical(text: str) -> bool:

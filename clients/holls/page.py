@@ -1,37 +1,42 @@
-"""`holls page`: serves the page to this machine's browser, and between the two the program hol-serve.
+"""`holls page`: serves the page to this machine's browser, and to each page that is open a bridge of its own, as an editor has one.
 
-A browser gets the files of the folder page/, and by a WebSocket at /prover a program of its own: a message holds request lines, and each
-reply line is a message. The socket's end ends the program, and the program's end closes the socket, with words on how.
+A browser gets the files of the folder page/, the theories of the library, and by a WebSocket at /bridge the messages of the Language Server
+Protocol, one in each message of text. Nothing is kept here: the page holds its theories, and opens them anew where a bridge has ended.
 """
 
 from __future__ import annotations
 
 import argparse
-import queue
+import socket as sockets
 import sys
 import threading
+import time
 import webbrowser
 from http import HTTPStatus
 from http.server import BaseHTTPRequestHandler, ThreadingHTTPServer
 from pathlib import Path
-from typing import List, Optional, Union
+from typing import Any, Dict, List, Optional
 
-from holls import server
+from holls import relay, server
 from holls.websocket import WebSocket, accept_key
 
-FOLDER = Path(__file__).resolve().parents[2] / "page"
-"""The page's files."""
+CLONE = Path(__file__).resolve().parents[2]
+FOLDER, LIBRARY = CLONE / "page", CLONE / "theories"
+"""The page's files, and the theories that each page may import."""
 
 ADDRESS = "127.0.0.1"
 """Nobody but this machine is served."""
-
 PORT = 8765
 MOST_PORT = 65_535
-PROGRAMS = 32
-"""So many programs run at once at most."""
 
-TOGETHER = 65536
-"""Lines that go in one message have hardly more bytes."""
+PAGES = 32
+"""So many pages are open at once at most."""
+CONNECTIONS = 256
+"""So many connections may wait for a request or its answer: where there is one more, the oldest of them is ended."""
+REQUEST_SECONDS = 10
+"""So long a connection may take for a request with its answer, and be kept until the next one."""
+SILENT_SECONDS = 60
+"""So long a page may be silent, which is asked again and again meanwhile, or may leave unread what it is sent."""
 
 _KINDS = {
     ".html": "text/html; charset=utf-8", ".css": "text/css; charset=utf-8", ".js": "text/javascript; charset=utf-8",
@@ -41,24 +46,70 @@ _POLICY = "default-src 'self'; connect-src 'self' ws://%s; base-uri 'none'; form
 
 
 class Pages(ThreadingHTTPServer):
-    """The server. `program` is what each socket gets one of."""
+    """The server. `bridge` are the words that start what each page gets one of, `library` is the folder of the theories that it knows."""
 
     daemon_threads = True
-    request_queue_size = 64
+    request_queue_size = 128
 
-    def __init__(self, port: int, program: List[str]) -> None:
+    def __init__(self, port: int, bridge: List[str], library: Optional[Path]) -> None:
         super().__init__((ADDRESS, port), _Request)
-        self.program = program
-        self.room = threading.Semaphore(PROGRAMS)
+        self.bridge, self.library = bridge, library
+        self.room = threading.Semaphore(PAGES)
+        self._lock = threading.Lock()
+        self._asking: Dict[sockets.socket, float] = {}
 
     @property
     def address(self) -> str:
         """Where the page is."""
         return "http://%s:%d/" % (ADDRESS, self.server_port)
 
+    def is_own(self, host: str) -> bool:
+        """Whether a host is this server: else another page has found its way here."""
+        names = (ADDRESS, "localhost")
+        return host in ["%s:%d" % (name, self.server_port) for name in names] or self.server_port == 80 and host in names
+
+    def process_request(self, request: Any, client_address: Any) -> None:
+        """Begins a connection."""
+        self.awaits(request)
+        super().process_request(request, client_address)
+
+    def awaits(self, connection: sockets.socket) -> None:
+        """A connection waits for a request from now on. Of too many the oldest one is ended."""
+        with self._lock:
+            self._asking.pop(connection, None)
+            self._asking[connection] = time.monotonic()
+            oldest = next(iter(self._asking)) if len(self._asking) > CONNECTIONS else None
+        if oldest:
+            self._break(oldest)
+
+    def awaits_no_more(self, connection: sockets.socket) -> None:
+        """A connection has become a page's socket, or has ended."""
+        with self._lock:
+            self._asking.pop(connection, None)
+
+    def service_actions(self) -> None:
+        """Ends, twice a second, the connections that have taken too long."""
+        with self._lock:
+            late = [one for one, since in self._asking.items() if time.monotonic() - since > REQUEST_SECONDS]
+        for one in late:
+            self._break(one)
+
+    def _break(self, connection: sockets.socket) -> None:
+        """Ends a connection: its thread sees that."""
+        self.awaits_no_more(connection)
+        try:
+            connection.shutdown(sockets.SHUT_RDWR)
+        except OSError:
+            pass  # It has ended already.
+
+    def shutdown_request(self, request: Any) -> None:
+        """A connection has ended."""
+        self.awaits_no_more(request)
+        super().shutdown_request(request)
+
     def handle_error(self, request: object, client_address: object) -> None:
         """A browser that goes away in the midst of an answer is nothing to tell of."""
-        if not isinstance(sys.exc_info()[1], OSError):
+        if not isinstance(sys.exc_info()[1], (OSError, ValueError)):
             super().handle_error(request, client_address)
 
 
@@ -69,30 +120,33 @@ class _Request(BaseHTTPRequestHandler):
     server: Pages
     disable_nagle_algorithm = True
 
+    def handle_one_request(self) -> None:
+        """Takes a request, in time."""
+        self.server.awaits(self.connection)
+        super().handle_one_request()
+
     def do_GET(self) -> None:  # noqa: N802
         """Answers a file, or becomes a socket."""
-        if not self._is_own(self.headers.get("Host", "")):
+        path = self.path.partition("?")[0]
+        if not self.server.is_own(self.headers.get("Host", "")):
             self._fail(HTTPStatus.FORBIDDEN)
-        elif self.path.partition("?")[0] == "/prover":
+        elif path == "/bridge":
             self._connect()
+        elif path.startswith("/theories/"):
+            self._answer(self.server.library, path[len("/theories/"):])
         else:
-            self._file()
+            self._answer(FOLDER, path[1:] or "index.html")
 
     def log_message(self, format: str, *args: object) -> None:
         """Says nothing of what went well."""
 
-    def _is_own(self, host: str) -> bool:
-        """Whether a host is this server: else another page has found its way here."""
-        return host in ("%s:%d" % (name, self.server.server_port) for name in (ADDRESS, "localhost"))
-
-    def _file(self) -> None:
-        name = self.path.partition("?")[0].lstrip("/") or "index.html"
-        file = FOLDER / name
-        kind = _KINDS.get(file.suffix)
-        if kind is None or ".." in name or not file.is_file():
+    def _answer(self, folder: Optional[Path], name: str) -> None:
+        """A file of a folder, of the kinds that are served."""
+        kind = _KINDS.get(Path(name).suffix)
+        if folder is None or kind is None or Path(name).name != name or not (folder / name).is_file():
             self._fail(HTTPStatus.NOT_FOUND)
             return
-        data = file.read_bytes()
+        data = (folder / name).read_bytes()
         self.send_response(HTTPStatus.OK)
         for key, value in (("Content-Type", kind), ("Content-Length", str(len(data))), ("Cache-Control", "no-cache"),
                            ("Content-Security-Policy", _POLICY % self.headers["Host"]), ("X-Content-Type-Options", "nosniff")):
@@ -109,61 +163,30 @@ class _Request(BaseHTTPRequestHandler):
         """Makes a socket of the connection, if it is this page that asks."""
         self.close_connection = True
         key, origin = self.headers.get("Sec-WebSocket-Key"), self.headers.get("Origin", "")
-        if not key or not origin.startswith("http://") or not self._is_own(origin[len("http://"):]):
+        if not key or not origin.startswith("http://") or not self.server.is_own(origin[len("http://"):]):
             self._fail(HTTPStatus.FORBIDDEN)
             return
+        has_room = self.server.room.acquire(blocking=False)
+        try:
+            self._talk(key, has_room)
+        finally:
+            if has_room:
+                self.server.room.release()
+
+    def _talk(self, key: str, has_room: bool) -> None:
+        """Answers a handshake, and passes on until the page's end."""
         self.send_response(HTTPStatus.SWITCHING_PROTOCOLS)
         for name, value in (("Upgrade", "websocket"), ("Connection", "Upgrade"), ("Sec-WebSocket-Accept", accept_key(key))):
             self.send_header(name, value)
         self.end_headers()
         self.wfile.flush()
+        self.server.awaits_no_more(self.connection)
+        self.connection.settimeout(SILENT_SECONDS)
         socket = WebSocket(self.rfile, self.wfile)
-        if not self.server.room.acquire(blocking=False):
-            socket.close("too many pages are open")
-            return
-        try:
-            serve(socket, self.server.program)
-        finally:
-            self.server.room.release()
-
-
-def serve(socket: WebSocket, program: List[str]) -> None:
-    """Runs a program for a socket, until one of the two ends. What the program isn't ready to read waits, so that an end is seen at once."""
-    events: "queue.Queue[Union[server.Line, server.Ended]]" = queue.Queue()
-    try:
-        process = server.Server(program, events)
-    except server.NoServer as error:
-        socket.close(str(error))
-        return
-    teller = threading.Thread(target=_tell, args=(events, socket), daemon=True)
-    teller.start()
-    try:
-        for message in socket.messages():
-            for line in (message[:-1] if message.endswith(b"\n") else message).split(b"\n"):
-                process.send(line)
-    finally:
-        process.stop()
-        teller.join()
-
-
-def _tell(events: "queue.Queue[Union[server.Line, server.Ended]]", socket: WebSocket) -> None:
-    """Sends what a program writes, and tells how it ended. Lines that are there together go in one message, which the page takes in before it draws."""
-    while True:
-        event, lines, size = events.get(), [], 0
-        while isinstance(event, server.Line):
-            lines.append(event.data)
-            size += len(event.data)
-            if events.empty() or size > TOGETHER:
-                break
-            event = events.get()
-        try:
-            if lines:
-                socket.send(b"".join(lines)[:-1])
-        except (OSError, ValueError):
-            return  # The page is gone, and the program ends.
-        if isinstance(event, server.Ended):
-            socket.close("hol_serve " + event.reason)
-            return
+        if has_room:
+            relay.relay(socket, self.server.bridge)
+        else:
+            socket.close(relay.NO_ROOM, "too many pages are open")
 
 
 def add_words(words: argparse.ArgumentParser) -> None:
@@ -171,6 +194,14 @@ def add_words(words: argparse.ArgumentParser) -> None:
     words.add_argument("--server", metavar="PROGRAM", help="the program hol_serve")
     words.add_argument("--port", type=int, default=PORT, help="the port (%d; 0: any that is free)" % PORT)
     words.add_argument("--no-browser", action="store_true", help="only tell where the page is")
+    words.add_argument("--library", metavar="DIR", help="the theories that a page may import (those of theories/)")
+    words.add_argument("--seconds", type=int, default=20, help="how long one command may take (20)")
+
+
+def _bridge(given: argparse.Namespace, program: str, library: Optional[Path]) -> List[str]:
+    """The words that start a bridge for a page."""
+    words = [sys.executable, str(CLONE / "clients" / "bin" / "holls"), "lsp", "--held", "--server", program, "--seconds", str(given.seconds)]
+    return words + (["--library", str(library)] if library else [])
 
 
 def main(given: argparse.Namespace) -> int:
@@ -179,11 +210,13 @@ def main(given: argparse.Namespace) -> int:
         return _complain("--port takes 0 to %d" % MOST_PORT)
     if not (FOLDER / "index.html").is_file():
         return _complain("the folder page/ is missing beside clients/")
-    pages: Optional[Pages] = None
+    library = Path(given.library).resolve() if given.library else LIBRARY if LIBRARY.is_dir() else None
+    if given.library and not library.is_dir():
+        return _complain("--library: there is no folder %s" % given.library)
     try:
         program = server.find(given.server)
         server.probe(program)
-        pages = Pages(given.port, program)
+        pages = Pages(given.port, _bridge(given, program[0], library), library)
     except server.NoServer as error:
         return _complain(str(error))
     except OSError as error:

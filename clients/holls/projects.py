@@ -10,23 +10,31 @@ from __future__ import annotations
 
 import json
 import os
-from typing import Dict, List, Optional, Tuple, Union
+from typing import Dict, List, Optional, Sequence, Tuple, Union
+
+from holls import disk
+from holls.disk import Moment, changed
 
 PROJECT_FILE = "hol-project.json"
 SUFFIX = ".hol"
 MOST_FILES = 10_000
+MOST_FOLDERS = 2_000
+PROJECT_FILE_BYTES = 1 << 20
+LIBRARY = os.path.join(os.path.dirname(os.path.dirname(os.path.dirname(os.path.abspath(__file__)))), "theories")
+"""The theories of this clone."""
 
-Moment = Tuple[int, int, int]
-"""By what it is seen that a path has changed."""
 Stamp = Dict[str, Moment]
 """Paths as they were before they were read."""
 
 
 class Project:
-    """A folder of theories, or those that a project file names. `key` is what no other project has."""
+    """A folder of theories, or those that a project file names. `key` is what no other project has.
 
-    def __init__(self, root: str, has_file: bool = False) -> None:
-        self.root, self.has_file = root, has_file
+    Where `within` names folders, no theory that lies outside of them is found.
+    """
+
+    def __init__(self, root: str, has_file: bool = False, within: Sequence[str] = ()) -> None:
+        self.root, self.has_file, self.within = root, has_file, within
         self.key = os.path.join(root, PROJECT_FILE) if has_file else root
         self.error: Optional[str] = None
         self.folders: List[str] = [root]
@@ -44,6 +52,8 @@ class Project:
             own[path] = changed(path)
             self._read(path)
         self._paths, self._stamp, self._left_out = _scan(self.folders, self.has_file)
+        if self.has_file and len(self._stamp) >= MOST_FOLDERS and not self.error:
+            self.error = "%s names more than %d folders, with those below: the others weren't looked into; name fewer" % (path, MOST_FOLDERS)
         self._stamp.update(own)
 
     def is_stale(self) -> bool:
@@ -58,17 +68,31 @@ class Project:
 
     def find(self, name: str) -> Union[str, List[str]]:
         """The path of a theory's file; or all such paths, where there are none or several."""
-        found = self._paths.get(name, [])
+        found = self._found(name)
         return found[0] if len(found) == 1 else found
+
+    def _found(self, name: str) -> List[str]:
+        found = self._paths.get(name, [])
+        return [path for path in found if any(disk.is_within(path, folder) for folder in self.within)] if self.within else found
 
     def missing(self, name: str) -> str:
         """Words for a theory that has no file, or several."""
-        found = self._paths.get(name, [])
+        found = self._found(name)
+        if self._paths.get(name) and not found:
+            return "the file %s lies outside of %s, which --within names" % (self._paths[name][0], " and ".join(self.within))
         if found:
             return "the theory %s has several files in this project: %s; rename all but one" % (name, ", ".join(found))
         where = ", ".join(self.folders) + (" and below" if self.has_file else "")
         cut = "; of its files only %d were looked at" % MOST_FILES if len(self.paths()) >= MOST_FILES else ""
-        return "there is no file %s%s in %s%s" % (name, SUFFIX, where, cut)
+        return "there is no file %s%s in %s%s%s" % (name, SUFFIX, where, cut, self._hint(name))
+
+    def _hint(self, name: str) -> str:
+        """Where the library has a theory of the name, how it is reached."""
+        if LIBRARY in self.folders or not os.path.isfile(os.path.join(LIBRARY, name + SUFFIX)):
+            return ""
+        folders = self.folders if self.has_file else ["."]
+        told = json.dumps({"folders": [os.path.relpath(folder, self.root) if folder != "." else "." for folder in folders] + [LIBRARY]})
+        return "; the library has it: write %s into %s" % (told, os.path.join(self.root, PROJECT_FILE))
 
     def paths(self) -> List[str]:
         """All files of the project."""
@@ -81,22 +105,71 @@ class Project:
     def _read(self, path: str) -> None:
         self.folders = [self.root]
         try:
-            with open(path, encoding="utf-8") as stream:
-                folders = json.load(stream).get("folders", ["."])
-            if not isinstance(folders, list) or not all(isinstance(folder, str) for folder in folders):
+            told = json.loads(disk.read(path, PROJECT_FILE_BYTES).decode("utf-8"))
+            folders = told.get("folders", ["."])
+            if not isinstance(folders, list) or not all(isinstance(folder, str) and _is_path(folder) for folder in folders):
                 raise ValueError("`folders` has to be a list of folders' names")
             self.folders = [os.path.normpath(os.path.join(self.root, folder)) for folder in folders]
-        except (OSError, ValueError, AttributeError) as error:
+            self.error = self._odd(path, told)
+        except disk.CannotRead as error:
+            self.error = "%s %s" % (path, error)
+        except RecursionError:
+            self.error = "%s can't be read: its brackets are too deep" % path
+        except (ValueError, AttributeError) as error:
             self.error = "%s can't be read: %s" % (path, error)
 
 
-def changed(path: str) -> Moment:
-    """When a path changed last, how large it is, and which file it is; zeros where there is none."""
+    def _odd(self, path: str, told: Dict[str, object]) -> Optional[str]:
+        """What a project file says that means nothing."""
+        other = next((key for key in told if key != "folders"), None)
+        if other is not None:
+            return "%s: the key `%s` means nothing; `folders` names the folders" % (path, other)
+        missing = next((folder for folder in self.folders if not os.path.isdir(folder)), None)
+        return None if missing is None else "%s: there is no folder %s" % (path, missing)
+
+
+def _is_path(name: str) -> bool:
+    """Whether a file may have the name."""
     try:
-        about = os.stat(path)
-        return about.st_mtime_ns, about.st_size, about.st_ino
-    except OSError:
-        return 0, 0, 0
+        return b"\0" not in os.fsencode(name)
+    except UnicodeEncodeError:
+        return False
+
+
+class Held(Project):
+    """The one project of an editor that holds its files itself, as the page does: beside them stand those of a library, which never change."""
+
+    def __init__(self, library: Optional[str]) -> None:
+        super().__init__(library or "")
+        self.key = "held"
+
+    def refresh(self) -> None:
+        """Looks for the library's files, once."""
+        if self.root and not self._paths:
+            self._paths = _scan(self.folders, True)[0]
+
+    def is_stale(self) -> bool:
+        """Never."""
+        return False
+
+    def missing(self, name: str) -> str:
+        """Words for a theory that isn't there."""
+        return "there is no theory %s here: open it, or make a new one of that name" % name
+
+
+class OneProject:
+    """What stands in the place of `Projects` where all documents are of one project, and nothing on disk changes."""
+
+    def __init__(self, library: Optional[str]) -> None:
+        self._project = Held(library)
+
+    def of(self, _: str) -> Project:
+        """The project."""
+        return self._project
+
+    def refresh(self) -> bool:
+        """Whether something has changed: nothing."""
+        return False
 
 
 def _scan(folders: List[str], is_deep: bool) -> Tuple[Dict[str, List[str]], Stamp, List[str]]:
@@ -105,7 +178,7 @@ def _scan(folders: List[str], is_deep: bool) -> Tuple[Dict[str, List[str]], Stam
     stamp: Stamp = {}
     left_out: List[str] = []
     number, waiting = 0, folders[::-1]
-    while waiting:
+    while waiting and len(stamp) < MOST_FOLDERS:
         folder = waiting.pop()
         if folder in stamp:
             continue
@@ -122,20 +195,21 @@ def _scan(folders: List[str], is_deep: bool) -> Tuple[Dict[str, List[str]], Stam
 
 
 def _listed(folder: str) -> Tuple[List[str], List[str]]:
-    """The files of theories in a folder, and the folders in it that aren't hidden."""
+    """The files of theories in a folder, and the folders in it that aren't hidden. What is neither is passed over."""
     try:
         with os.scandir(folder) as entries:
             every = sorted(entries, key=lambda entry: entry.name)
-    except OSError:
+    except (OSError, ValueError):
         return [], []
-    below = [entry.name for entry in every if entry.is_dir(follow_symlinks=False) and not entry.name.startswith(".")]
-    return [entry.name for entry in every if entry.name.endswith(SUFFIX) and not entry.is_dir()], below
+    below = [entry.name for entry in every if not entry.name.startswith(".") and disk.is_folder(entry)]
+    return [entry.name for entry in every if entry.name.endswith(SUFFIX) and disk.is_regular(entry)], below
 
 
 class Projects:
-    """The projects by the folders of their files."""
+    """The projects by the folders of their files. With `within` no theory outside of these folders is found."""
 
-    def __init__(self) -> None:
+    def __init__(self, within: Sequence[str] = ()) -> None:
+        self._within = within
         self._by_folder: Dict[str, Tuple[Optional[str], Project]] = {}
         self._by_root: Dict[Tuple[str, bool], Project] = {}
 
@@ -144,14 +218,22 @@ class Projects:
         folder = os.path.dirname(os.path.abspath(path))
         if folder not in self._by_folder:
             root = _root(folder)
-            project = None if root is None else self._at(root, True)
-            self._by_folder[folder] = root, project if project and project.has_folder(folder) else self._at(folder, False)
+            self._by_folder[folder] = root, self._in(folder, root)
         return self._by_folder[folder][1]
+
+    def _in(self, folder: str, root: Optional[str]) -> Project:
+        """The project of a folder's files, where the nearest project file is in `root`. What is wrong with that is told in any case."""
+        project = None if root is None else self._at(root, True)
+        if project and project.has_folder(folder):
+            return project
+        own = self._at(folder, False)
+        own.error = project.error if project else None
+        return own
 
     def _at(self, root: str, has_file: bool) -> Project:
         key = root, has_file
         if key not in self._by_root:
-            self._by_root[key] = Project(root, has_file)
+            self._by_root[key] = Project(root, has_file, self._within)
         return self._by_root[key]
 
     def refresh(self) -> bool:

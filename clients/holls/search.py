@@ -12,12 +12,14 @@ from typing import Any, Dict, FrozenSet, Iterable, List, Optional, Sequence, Tup
 
 from holls import terms
 from holls.names import IN_TERMS, THEOREM, Known
+from holls.surface.errors import Misread
+from holls.view import PLAIN, View
 
 MOST = 200
 """So many results are kept."""
 
 _QUOTED = re.compile(r"`([^`]*)`?")
-_PATTERN = re.compile(r"[=~\\!?@()]|/\\|(?<![A-Za-z0-9_'])_(?![A-Za-z0-9_'])")
+_PATTERN = re.compile(r"[=~\\!?@(){}\[\]<>+*|;,#-]|/\\|(?<![A-Za-z0-9_'])_(?![A-Za-z0-9_'])")
 
 
 class BadQuery(Exception):
@@ -54,8 +56,8 @@ class _Statement:
         return _Statement(tree, terms.stripped(tree), terms.conclusion(tree), symbols, by_head)
 
 
-def query(text: str, of_conclusion: bool = False) -> Query:
-    """Reads a query."""
+def query(text: str, of_conclusion: bool = False, view: View = PLAIN) -> Query:
+    """Reads a query, whose pattern may be in the notation of a view. Raises `BadQuery`."""
     patterns = _QUOTED.findall(text)
     rest = _QUOTED.sub(" ", text)
     if not patterns and _PATTERN.search(rest):
@@ -63,8 +65,8 @@ def query(text: str, of_conclusion: bool = False) -> Query:
     if len(patterns) > 1:
         raise BadQuery("a query has one pattern")
     try:
-        pattern = terms.read(patterns[0]) if patterns and patterns[0].strip() else None
-    except terms.Unreadable as error:
+        pattern = terms.read(view.plain(patterns[0])) if patterns and patterns[0].strip() else None
+    except (terms.Unreadable, Misread) as error:
         raise BadQuery("the pattern can't be read: %s" % error) from None
     return Query(tuple(rest.lower().split()), pattern, of_conclusion)
 

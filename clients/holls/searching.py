@@ -6,15 +6,16 @@ import argparse
 import json
 import os
 import queue
-import sys
 from typing import Dict, Iterator, List, Optional, Sequence
 
 from holls import check, checking, names, protocol, search, server
 from holls.checking import SERVED, Unit
 from holls.files import File
 from holls.names import PRELUDE, THEOREM, Known
+from holls.say import complain, say
 from holls.session import Session
 from holls.sweep import Sweep
+from holls.view import View
 
 NONE, BROKEN = 1, 2
 
@@ -35,15 +36,16 @@ def add_words(parser: argparse.ArgumentParser) -> None:
 def main(given: argparse.Namespace) -> int:
     """Writes the theorems found, the best first: status 0 where there are some, 1 where none, 2 where nothing can be searched."""
     try:
-        asked = search.query(" ".join(given.query), given.conclusion)
         units = checking.units(check.ordered(_files(given.files)))
+        view = View.of_all(unit.file for unit in units)
+        asked = search.query(" ".join(given.query), given.conclusion, view)
         known = PRELUDE + list(_written(units) if given.written else _standing(units, server.find(given.server), given.seconds))
     except (search.BadQuery, check.CannotCheck, server.NoServer) as error:
-        print("holls: %s" % error, file=sys.stderr)
+        complain(error)
         return BROKEN
     found = search.Index().find(asked, known)
     for one in found:
-        _show(one, given.json)
+        _show(one, given.json, view)
     return 0 if found else NONE
 
 
@@ -69,7 +71,7 @@ def _standing(units: Sequence[Unit], program: List[str], seconds: int) -> Iterat
     for unit in units:
         files = unit.imports + [unit.file]
         if not unit.file.is_sent or len(files) > protocol.THEORIES:
-            print("holls: %s isn't searched: it can be no theory of one server" % unit.file.path, file=sys.stderr)
+            complain("%s isn't searched: it can be no theory of one server" % unit.file.path)
             continue
         standing, root = checking.joined(standing if root == unit.root else [], files), unit.root
         session.want([file.theory for file in standing])
@@ -98,9 +100,9 @@ def _ask(session: Session, events: "queue.Queue[object]", file: File) -> Dict[st
     return {name: rest[len("|- "):] for _, name, rest in parts}
 
 
-def _show(one: Known, as_json: bool) -> None:
+def _show(one: Known, as_json: bool, view: View) -> None:
     where = (one.file.path, one.file.lines.line(names.name_range(one)[0]) + 1) if one.file else ("prelude", 0)
     if as_json:
-        print(json.dumps({"file": where[0], "line": where[1], "name": one.name, "statement": one.shown}))
+        print(json.dumps({"file": where[0], "line": where[1], "name": one.name, "statement": one.shown_in(view), "plain": one.shown}))
     else:
-        print("%s: %s |- %s" % ("%s:%d" % where if one.file else where[0], one.name, " ".join(one.shown.split())))
+        say("%s: %s |- %s" % ("%s:%d" % where if one.file else where[0], one.name, " ".join(one.shown_in(view).split())))

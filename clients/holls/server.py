@@ -13,9 +13,22 @@ from typing import FrozenSet, List, Optional, Union
 
 from holls import protocol
 
+try:
+    import resource
+except ImportError:
+    resource = None  # Windows has none.
+
 VARIABLE = "HOL_SERVE"
 """The environment variable that names the program."""
+MEMORY_VARIABLE = "HOL_SERVE_MEMORY"
+"""The environment variable that says how many MB of memory a program may have; 0 sets no limit."""
+SHELL = "/bin/sh"
+"""What starts a program under a limit that its own words name."""
+MEMORY_MB = 3000
+"""So many it may have where that isn't said."""
 
+CHUNK_BYTES = 1 << 16
+"""So many bytes are read at a time at most."""
 REPLY_BYTES = 1 << 28
 """A longer line is taken for no reply."""
 
@@ -25,6 +38,10 @@ _PROBES = (
     ("remove", {"theory": "", "at": 0}),
     ("drop_theory", {"name": ""}),
 )
+
+
+Events = Union["queue.Queue[object]", "queue.SimpleQueue[object]"]
+"""Where a server puts what it writes, and its end."""
 
 
 class NoServer(Exception):
@@ -50,10 +67,10 @@ class Ended:
 class Server:
     """A running server. What it writes, and its end, come as events; nothing here waits."""
 
-    def __init__(self, program: List[str], events: "queue.Queue[object]") -> None:
+    def __init__(self, program: List[str], events: Events) -> None:
         self.process = _start(program)
         self._events = events
-        self._lines: "queue.Queue[Optional[bytes]]" = queue.Queue()
+        self._lines: "queue.SimpleQueue[Optional[bytes]]" = queue.SimpleQueue()
         self._complaint = b""
         self._listener = threading.Thread(target=self._hear, daemon=True)
         self._listener.start()  # The reader joins it, which may be as soon as the reader begins.
@@ -61,7 +78,7 @@ class Server:
             threading.Thread(target=work, daemon=True).start()
 
     def send(self, line: bytes) -> None:
-        """Queues a line to be written."""
+        """Queues a line to be written, or several with newlines between them."""
         self._lines.put(line + b"\n")
 
     def stop(self) -> None:
@@ -88,11 +105,21 @@ class Server:
 
     def _read(self) -> None:
         """Hands on whole lines; what ends within a line, or is too long for one, ends the server."""
-        for line in iter(lambda: self.process.stdout.readline(REPLY_BYTES), b""):
-            if not line.endswith(b"\n"):
-                self.process.kill()
+        begun: List[bytes] = []
+        length = 0
+        for data in iter(lambda: self.process.stdout.read1(CHUNK_BYTES), b""):
+            lines = data.split(b"\n")
+            if len(lines) > 1:
+                lines[0] = b"".join(begun) + lines[0]
+                begun, length = [], 0
+                for line in lines[:-1]:
+                    self._events.put(Line(self, line + b"\n"))
+            begun.append(lines[-1])
+            length += len(lines[-1])
+            if length > REPLY_BYTES:
                 break
-            self._events.put(Line(self, line))
+        if length:
+            self.process.kill()
         status = self.process.wait()
         self._listener.join(1)
         self._events.put(Ended(self, _ending(status, self._complaint)))
@@ -105,9 +132,29 @@ class Server:
 
 def _start(program: List[str]) -> "subprocess.Popen[bytes]":
     try:
-        return subprocess.Popen(program, stdin=subprocess.PIPE, stdout=subprocess.PIPE, stderr=subprocess.PIPE)
+        process = subprocess.Popen(program, stdin=subprocess.PIPE, stdout=subprocess.PIPE, stderr=subprocess.PIPE)
     except OSError as error:
         raise NoServer("the program %s can't be started: %s" % (program[0], error.strerror or error)) from None
+    if program[0] != SHELL:  # Its words set a limit of their own.
+        _limit(process.pid, memory())
+    return process
+
+
+def memory() -> Optional[int]:
+    """So many bytes of memory a program may have; None where it has no limit."""
+    given = os.environ.get(MEMORY_VARIABLE, "")
+    return (int(given) if given.isdigit() and len(given) < 10 else MEMORY_MB) << 20 or None
+
+
+def _limit(process: int, most: Optional[int]) -> None:
+    """Limits a program's memory, where the system can: what it isn't given, it answers by the memory line."""
+    if most is None or resource is None or not hasattr(resource, "prlimit"):
+        return
+    try:
+        hard = resource.prlimit(process, resource.RLIMIT_AS)[1]
+        resource.prlimit(process, resource.RLIMIT_AS, (most if hard == resource.RLIM_INFINITY else min(most, hard), hard))
+    except (OSError, ValueError):
+        pass  # It has ended already, or runs without the limit.
 
 
 def _ending(status: int, complaint: bytes) -> str:

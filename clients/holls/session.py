@@ -9,7 +9,6 @@ and is left out from then on. Else it may be another one, and the session is beg
 
 from __future__ import annotations
 
-import queue
 import time
 from collections import deque
 from dataclasses import dataclass
@@ -17,7 +16,7 @@ from typing import Callable, Deque, FrozenSet, List, Optional, Tuple, Union
 
 from holls import protocol
 from holls.difference import INSERT, REPLACE
-from holls.server import Ended, Line, NoServer, Server
+from holls.server import Ended, Events, Line, NoServer, Server
 from holls.sweep import Sweep
 from holls.theory import DROP, NEW, Change, Entry, Job, Standing, Theory
 
@@ -29,7 +28,7 @@ START_SECONDS = 10.0
 """So long, at least, a server may take for what runs no command, as where it starts, however little time a command has."""
 ENDS = 6
 """After so many ends of the server since the last edit it isn't started again."""
-WINDOW = 16
+WINDOW = 64
 """So many requests are sent ahead at most, and hardly more than take so long: a later edit waits for these."""
 WINDOW_SECONDS = 0.02
 
@@ -53,10 +52,11 @@ class _Pending:
 class Session:
     """One server in step with `theories`. `sweep` names the commands to be asked for; `told` is called after each news."""
 
-    def __init__(self, program: List[str], events: "queue.Queue[object]", served: FrozenSet[str], sweep: Sweep,
+    def __init__(self, program: List[str], events: Events, served: FrozenSet[str], sweep: Sweep,
                  told: Callable[[], None], seconds: float) -> None:
         self.theories: List[Theory] = []
         self.failure: Optional[str] = None
+        self.slow_seconds = SLOW_SECONDS
         self._program, self._events, self._served, self._seconds = program, events, served, seconds
         self._sweep, self._told = sweep, told
         self._server: Optional[Server] = None
@@ -65,6 +65,7 @@ class Session:
         self._pending: Deque[_Pending] = deque()
         self._changes: Deque[Change] = deque()
         self._questions: Deque[Tuple[bytes, Answer]] = deque()
+        self._lines: List[bytes] = []
         self._since = 0.0
         self._took_edit = self._took = 0.0
         self._begun: Optional[float] = None
@@ -95,10 +96,30 @@ class Session:
         self.ask(protocol.line({"op": "report", "theory": theory, "at": len(commands) - 1}), answer)
         self.ask(protocol.line({"op": DROP, "name": theory}), lambda _: None)
 
+    def stop_running(self) -> None:
+        """Stops the command that is marked as running long: it is left out; or where others may be why, each is run by itself."""
+        head = self._pending[0] if self._pending else None
+        entry = self._entry(head.change) if head and head.change else None
+        if entry is None or not entry.is_slow:
+            return
+        if not self._standing.is_last(head.change, self.theories):
+            self.stop()
+        else:
+            self._give_up(head, "it was stopped")
+        self._told()
+        self.pump()
+
     # Sending
 
     def pump(self) -> None:
         """Sends what can be sent now."""
+        self._fill()
+        if self._lines and self._server:
+            self._server.send(b"\n".join(self._lines))
+        self._lines = []
+
+    def _fill(self) -> None:
+        """Finds what can be sent now."""
         if self.failure or not self._is_in_step and not self._find_changes():
             return
         window = _window(self._took_edit)
@@ -156,14 +177,14 @@ class Session:
     def _ask(self, theory: Theory, at: int) -> None:
         entry = theory.entries[at]
         entry.is_asked = True
-        request = protocol.line({"op": "report", "theory": theory.name, "at": at})
+        request = b'{"op":"report","theory":"%s","at":%d}' % (theory.name.encode(), at)  # A theory's name has no character that JSON escapes.
         self._send(request, _Pending(lambda reply: self._reported(entry, reply), entry=entry))
 
     def _send(self, line: bytes, pending: _Pending) -> None:
         if not self._pending:
             self._since = time.monotonic()
         self._pending.append(pending)
-        self._server.send(line)
+        self._lines.append(line)
 
     def _theory(self, name: str) -> Optional[Theory]:
         return next((theory for theory in self.theories if theory.name == name), None)
@@ -178,16 +199,22 @@ class Session:
 
     # Hearing
 
-    def hear(self, event: Union[Line, Ended]) -> None:
-        """Takes an event of a server; one of an earlier server is of no interest."""
-        if event.server is not self._server:
-            return
-        if isinstance(event, Ended):
-            self._lose(event.reason)
-        else:
-            self._heard(protocol.reply(event.data))
-        self._told()
-        self.pump()
+    def hear(self, *events: Union[Line, Ended]) -> None:
+        """Takes events of a server, in their order; those of an earlier server are of no interest."""
+        is_heard = False
+        for event in events:
+            if event.server is not self._server:
+                continue
+            is_heard = True
+            if isinstance(event, Ended):
+                self._lose(event.reason)
+            else:
+                self._heard(protocol.reply(event.data))
+        if is_heard:
+            for theory in self.theories:
+                theory.settle()
+            self._told()
+            self.pump()
 
     def _heard(self, reply: protocol.Reply) -> None:
         if isinstance(reply, protocol.Unreadable) or not self._pending:
@@ -262,6 +289,7 @@ class Session:
     def stop(self) -> None:
         """Ends the server. What was asked of it is Lost."""
         lost, self._pending = self._pending, deque()
+        self._lines = []
         server, self._server, self._begun = self._server, None, None
         self._begin_edit()
         self._standing = Standing()
@@ -292,7 +320,7 @@ class Session:
         limit = PATIENCE_SECONDS if head.limit is None else head.limit
         entry = self._entry(head.change) if head.limit is not None and head.change else None
         if entry and not entry.is_slow:
-            limit = min(limit, SLOW_SECONDS)
+            limit = min(limit, self.slow_seconds)
         return max(0.0, limit - self._age())
 
     def tick(self) -> None:
@@ -335,13 +363,13 @@ class Session:
         wanted = self._standing.changes(self.theories, self._served)
         return bool(wanted) and wanted[0] == change
 
-    def _give_up(self, head: _Pending) -> None:
-        """A request takes too long, and no other command is why."""
+    def _give_up(self, head: _Pending, stopped: Optional[str] = None) -> None:
+        """A request takes too long, and no other command is why; or it was stopped."""
         entry = self._entry(head.change) if head.change else head.entry
         if entry is None:
-            self._lose("gave no answer within %d seconds" % head.limit)
+            self._lose(stopped or "gave no answer within %d seconds" % head.limit)
             return
-        entry.report = protocol.Lost("hol_serve gave no answer within %d seconds" % self._seconds)
+        entry.report = protocol.Lost(stopped or "hol_serve gave no answer within %d seconds" % self._seconds)
         entry.is_left_out = head.change is not None
         self.stop()
 

@@ -10,9 +10,10 @@ from holls.theory import Job, Theory
 
 
 def unknown(theory: Theory, places: Iterable[int]) -> Iterator[Job]:
-    """The jobs at those places of which nothing is known and nothing was asked."""
+    """The jobs at those places of which nothing is known and nothing was asked, and which have to be asked for."""
+    most = theory.frontier
     for at in places:
-        if at < len(theory.entries) and _is_unknown(theory, at):
+        if at < most and _is_unknown(theory, at):
             yield theory, at
 
 
@@ -63,13 +64,19 @@ class Sweep:
 
     def _fill(self) -> None:
         for file in self.files:
-            self._jobs.extend(unknown(file.theory, range(len(file.theory.entries))))
+            self._jobs.extend(unknown(file.theory, range(file.theory.frontier)))
 
 
 def _take(jobs: Deque[Job]) -> Optional[Job]:
-    """The first job of a queue of which nothing is known and nothing was asked."""
-    while jobs:
+    """The first job of a queue of which nothing is known and nothing was asked. One that needn't be asked for yet stays."""
+    later: List[Job] = []
+    found = None
+    while jobs and found is None:
         theory, at = jobs.popleft()
         if at < len(theory.entries) and _is_unknown(theory, at):
-            return theory, at
-    return None
+            if at < theory.frontier:
+                found = theory, at
+            else:
+                later.append((theory, at))
+    jobs.extendleft(reversed(later))
+    return found

@@ -15,11 +15,14 @@ _IN_TERMS = {
     "\\": "; a binder as an argument stands in parentheses: f (\\x. t)",
     "`": "; the quotation ends too soon, or a backquote is missing",
     ":": "; a binder's variable with a type before another one stands in parentheses: !(x:A) y. p",
-    "0": "; there are no numerals: theories/numbers.hol has _0 and SUC, and 1 is SUC _0",
-    "+": "; there are no operators on numbers: theories/arithmetic.hol has functions, as add m n",
+    "0": "; numerals are notation, and none is declared here: theories/numbers.hol declares them",
+    "+": "; operators are notation, and none is declared here: theories/arithmetic.hol declares those on numbers",
 }
 """Hints at tokens in a quotation, that at "0" for each numeral, that at "+" for each of _OPERATORS."""
 _OPERATORS = "+-*<>"
+_QUOTES = "\"'\u2018\u2019\u201c\u201d\u00b4"
+_IN_WORDS = {"forall": "!", "exists": "?", "exists_unique": "?!", "lambda": "\\", "fun": "\\", "not": "~"}
+"""Words of other provers for signs of the notation."""
 _LINE_WORD = re.compile(r"\n[ \t\r]*([A-Za-z_][A-Za-z0-9_']*)")
 _COMMENT = re.compile(r"//|/\*|--|#|%")
 _GOES_ON = {"r": re.compile(r"\s*[0-9]"), "e": re.compile(r"\s*[A-Za-z(]"), "b": re.compile(r"\s*\Z|\s*\n")}
@@ -111,6 +114,9 @@ def _no_command(token: str) -> str:
         return "`%s` begins no command: a step begins with e, as in e %s;;" % (token, token)
     if near:
         return "`%s` begins no command; did you mean %s?" % (token, near.lower())
+    function = notation.near(token, notation.TACS) if "_" in token else None
+    if function:
+        return "`%s` begins no command; did you mean e %s?" % (token, function)
     return "`%s` begins no command; commands begin with %s" % (token, ", ".join(notation.COMMANDS))
 
 
@@ -119,12 +125,13 @@ def _unexpected(text: str, place: int, token: Optional[str], before: List[str]) 
     if token is None:
         shown = text[place] if text[place].isprintable() else "U+%04X" % ord(text[place])
         is_operator = text[place] in _OPERATORS and before.count("`") % 2
-        hint = "; `*)` closes no comment here" if text.startswith("*)", place) else _IN_TERMS["+"] if is_operator else ""
+        hint = "; `*)` closes no comment here" if text.startswith("*)", place) else _IN_TERMS["+"] if is_operator else (
+            "; a term stands in backquotes, as `x = x`" if text[place] in _QUOTES else "")
         return place, place + 1, "`%s` begins no symbol of the notation%s" % (shown, hint)
     rule = _rule(text, place, before)
     if rule:
         return rule
-    return place, place + len(token), "no command goes on with `%s` here%s" % (token, _hint(text, token, before))
+    return place, place + len(token), "unexpected `%s`%s" % (token, _hint(text, token, before))
 
 
 def _hint(text: str, token: str, before: List[str]) -> str:
@@ -137,11 +144,18 @@ def _hint(text: str, token: str, before: List[str]) -> str:
     if text.startswith("new_definition") and token in ("/\\", "\\/", "==>", "<=>"):
         return "; the right side of a definition's = stands in parentheses, or has <=> before it"
     if before.count("`") % 2 == 0:
-        return "; a command ends with `;;`" if token == ";" else ""
+        if token == ";":
+            return "; a command ends with `;;`"
+        is_short = before and before[0] in notation.COMMANDS and before[0] not in notation.STEPS
+        return "; expected %s" % notation.COMMANDS[before[0]] if is_short else ""
     if before[0] == "new_definition":
         return _in_definition(token, before[3:]) if is_word else _in_term(token)
     if before[-1] == "`" and (is_word or token == "("):
         return "; a type's quotation begins with `:`"
+    opened = len(before) - before[::-1].index("`")
+    word = next((word for word in before[opened:] if word in _IN_WORDS), None)
+    if word and token in (".", ",", ":", "("):
+        return "; `%s` is a plain name here: write `%s`" % (word, _IN_WORDS[word])
     return _in_term(token)
 
 

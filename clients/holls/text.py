@@ -9,20 +9,29 @@ from __future__ import annotations
 import re
 from bisect import bisect_right
 from dataclasses import dataclass
+from functools import lru_cache
 from typing import Iterator, List, NamedTuple, Optional, Tuple
+
+from holls.surface.errors import Misread
 
 SPACE = " \t\r\n"
 """The white space of the notation, and no other."""
 
 SYMBOLS = {
     "∀": "!", "∃!": "?!", "∃": "?", "λ": "\\", "ε": "@", "∧": "/\\", "∨": "\\/", "¬": "~", "⇒": "==>", "⟹": "==>",
-    "⇔": "<=>", "⟺": "<=>", "→": "->",
+    "⇔": "<=>", "⟺": "<=>", "→": "->", "∈": "IN", "∪": "UNION", "∩": "INTER", "∖": "DIFF", "⊆": "SUBSET", "⊂": "PSUBSET", "∅": "{}", "≤": "<=",
+    "≥": ">=", "×": "#", "∘": "o",
 }
-"""Symbols that may stand in a file for the notation's own."""
+"""Symbols that may stand in a file for the notation's own, and for operators that theories declare."""
+_OF_OPERATORS = frozenset("∈∪∩∖⊆⊂∅≤≥×∘")
+
+REMEMBERED = 4096
+"""Of so many commands' texts what they say is remembered."""
 
 _MARKS = re.compile(r"\(\*|\*\)|;;")
 _SYMBOL = re.compile("|".join(SYMBOLS) + "|[\ud800-\udfff]")
 _JOINING = set("<=>\\/-?!~@") | {key[0] for key in SYMBOLS}
+_WORD_OR_OPERATOR = frozenset("_'+*#&|^%$:.")
 _WORD = re.compile(r"[A-Za-z_][A-Za-z0-9_']*")
 
 
@@ -54,17 +63,38 @@ class Command:
         most = self.marks[at + 1][0] if at + 1 < len(self.marks) else len(self.text)
         return max(0, min(in_text + place - in_file, most))
 
+    def range(self, start: int, end: int) -> Tuple[int, int]:
+        """The range in the file of a range of the text."""
+        first = self.place(start)
+        return first, max(first, self.place(end))
+
+    @property
+    def as_written(self) -> "Command":
+        """The command as the file has it, but for comments and symbols."""
+        return self
+
+    @property
+    def error(self) -> Optional[Misread]:
+        """What is wrong with the command as notation; of one that is sent as it is written nothing is."""
+        return None
+
     @property
     def word(self) -> str:
         """The command's first word, or the empty string."""
-        found = _WORD.match(self.text)
-        return found.group() if found else ""
+        return _words(self.text)[0]
 
     @property
     def name(self) -> str:
         """The command's second word: of `g`, `deftac`, `import` and the `new_` commands, the name that it is about."""
-        words = _WORD.findall(self.text.split("`")[0])
-        return words[1] if len(words) > 1 else ""
+        return _words(self.text)[1]
+
+
+@lru_cache(REMEMBERED)
+def _words(text: str) -> Tuple[str, str]:
+    """A command's first word and its second one, or empty strings. A text that is edited has nearly all its commands again and again."""
+    first = _WORD.match(text)
+    words = _WORD.findall(text.split("`")[0])
+    return first.group() if first else "", words[1] if len(words) > 1 else ""
 
 
 @dataclass(frozen=True)
@@ -166,7 +196,14 @@ def _ascii(text: str, match: "re.Match[str]") -> str:
     before = text[match.start() - 1:match.start()] if match.start() else ""
     after = text[match.end():match.end() + 1]
     plain = SYMBOLS.get(match.group(), "\ufffd")
+    if match.group() in _OF_OPERATORS:
+        return " " * _would_join(before) + plain + " " * _would_join(after)
     return (" " if before in _JOINING else "") + plain + (" " if after in _JOINING else "")
+
+
+def _would_join(neighbour: str) -> bool:
+    """Whether a character beside an operator would be read as one with it."""
+    return neighbour in _JOINING or neighbour in _OF_OPERATORS or neighbour.isalnum() or neighbour in _WORD_OR_OPERATOR
 
 
 def _mended(parts: List[Tuple[str, int, int]]) -> Optional[Command]:

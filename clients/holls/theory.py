@@ -7,9 +7,13 @@ from typing import Any, Dict, Iterable, List, Optional, Sequence, Set, Tuple, Un
 
 from holls import protocol
 from holls.difference import INSERT, REMOVE, Edit, difference, middle
+from holls.unchanged import Before, Walk, all_known
 
 NEW, DROP = "new_theory", "drop_theory"
 
+
+BEFORES = 4
+"""So many of a theory's texts, with their reports, are kept, so that what is undone is known at once."""
 
 LEFT_OUT = ""
 """What stands in the place of a command that is left out: no command, which changes nothing."""
@@ -44,18 +48,38 @@ class Theory:
     entries: List[Entry] = field(default_factory=list)
     imports: Tuple[str, ...] = ()
     edits: int = 0
+    _befores: List[Before] = field(default_factory=list)
+    _walk: Optional[Walk] = None
+
+    @property
+    def frontier(self) -> int:
+        """Up to which place reports have to be asked for. Those below may still turn out to be what they were before an edit."""
+        return self._walk.frontier if self._walk else len(self.entries)
+
+    def settle(self) -> None:
+        """Takes notice of reports that have come: of some others it is known now that an edit didn't change them."""
+        if self._walk:
+            self._walk.go()
+        if self.frontier == len(self.entries) and (self._walk or not self._befores) and all_known(self.entries):
+            self._befores, self._walk = [Before(self.entries)] + self._befores[:BEFORES - 1], None
 
     def want(self, texts: Sequence[Tuple[str, bool]]) -> None:
         """Takes new commands, each with whether it is hidden. What is known above the first change stays."""
         start = middle([entry.text for entry in self.entries], [text for text, _ in texts]).start
         for entry, (_, is_hidden) in zip(self.entries[:start], texts):
             entry.is_hidden = is_hidden
-        self.edits += start < max(len(self.entries), len(texts))
+        if start == max(len(self.entries), len(texts)):
+            return
+        self.edits += 1
         self.entries[start:] = [Entry(text, is_hidden) for text, is_hidden in texts[start:]]
+        now = [entry.text for entry in self.entries]
+        before = next((one for one in self._befores if one.texts == now), next(iter(self._befores), None))
+        self._walk = Walk(before, self.entries) if before else None
 
     def forget(self, start: int) -> None:
         """Forgets what is known from a place on."""
         self.edits += 1
+        self._befores, self._walk = [], None
         self.entries[start:] = [Entry(entry.text, entry.is_hidden) for entry in self.entries[start:]]
 
 
@@ -135,11 +159,17 @@ class Standing:
         """
         served = list(served)
         names = [theory.name for theory in wanted]
-        dropped = [Change(DROP, name) for name, _ in reversed(self.theories) if name not in names and DROP in served]
-        kept = {name: texts for name, texts in self.theories if DROP not in served or name in names}
-        if not _is_in_order(list(kept), wanted) or len(set(kept) | set(names)) > protocol.THEORIES:
+        imports = {theory.name: theory.imports for theory in wanted}
+        below = {name: _imported(name, imports) for name in names}
+        early = _early([name for name, _ in self.theories], below)
+        if early and DROP not in served:
             return None
-        made = _made(list(kept), names)
+        gone = early.union(name for name, _ in self.theories if name not in names) if DROP in served else early
+        dropped = [Change(DROP, name) for name, _ in reversed(self.theories) if name in gone]
+        kept = {name: texts for name, texts in self.theories if name not in gone}
+        if len(set(kept) | set(names)) > protocol.THEORIES:
+            return None
+        made = _made(list(kept), wanted)
         edits: List[Change] = []
         for theory in wanted:
             more = difference(kept.get(theory.name, []), [entry.sent for entry in theory.entries], served)
@@ -160,26 +190,26 @@ def _imported(name: str, imports: Dict[str, Tuple[str, ...]]) -> Set[str]:
     return found
 
 
-def _is_in_order(standing: List[str], wanted: Sequence[Theory]) -> bool:
-    """Whether each wanted theory that stands does so after those wanted before it that it imports."""
+def _early(standing: List[str], below: Dict[str, Set[str]]) -> Set[str]:
+    """The theories that stand before one that they import, perhaps by way of others that are still to be made: they are to be made anew."""
     places = {name: at for at, name in enumerate(standing)}
-    before: Set[str] = set()
-    for theory in wanted:
-        imports = before.intersection(theory.imports, places) if theory.name in places else ()
-        if any(places[name] > places[theory.name] for name in imports):
-            return False
-        before.add(theory.name)
-    return True
+    return {
+        name for at, name in enumerate(standing)
+        if any(places.get(other, at) > at for other in below.get(name, ()))}
 
 
-def _made(standing: List[str], names: Sequence[str]) -> List[Change]:
-    """The theories that are still to be made, each behind the one before it and before what imports it."""
+def _made(standing: List[str], wanted: Sequence[Theory]) -> List[Change]:
+    """The theories that are still to be made, each behind all that it imports, and before those wanted behind it as far as that goes.
+
+    Nothing that stands comes before what it imports, by way of others too; so what imports a theory stands behind all that this imports.
+    """
     made: List[Change] = []
-    for number, name in enumerate(names):
-        if name in standing:
+    for number, theory in enumerate(wanted):
+        if theory.name in standing:
             continue
-        later = [standing.index(other) for other in names[number + 1:] if other in standing]
-        at = min(later, default=len(standing))
-        standing.insert(at, name)
-        made.append(Change(NEW, name, at))
+        later = [standing.index(other.name) for other in wanted[number + 1:] if other.name in standing]
+        behind = [standing.index(name) + 1 for name in theory.imports if name in standing]
+        at = max([min(later, default=len(standing))] + behind)
+        standing.insert(at, theory.name)
+        made.append(Change(NEW, theory.name, at))
     return made

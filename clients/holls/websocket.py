@@ -1,4 +1,8 @@
-"""WebSockets (RFC 6455) as far as the page's server and its tests need them: the handshake, and messages of text either way."""
+"""WebSockets (RFC 6455) as far as the page's server and its tests need them: the handshake, and messages of text either way.
+
+What the other side may have a reader do is bounded: a message has at most so many bytes and so many fragments, and a frame that the standard
+forbids ends the connection. How long a read or a write may take is the connection's own limit.
+"""
 
 from __future__ import annotations
 
@@ -10,14 +14,24 @@ import threading
 from typing import BinaryIO, Iterator, NamedTuple, Optional
 
 _GUID = "258EAFA5-E914-47DA-95CA-C5AB0DC85B11"
-MESSAGE_BYTES = 1 << 28
+MESSAGE_BYTES = 4 << 20
 """A longer message ends the connection."""
+FRAGMENTS = 1024
+"""A message of more frames, pings between them counted, ends the connection."""
+CONTROL_BYTES = 125
+"""So many bytes a ping, a pong or a close has at most."""
 
-_MORE, _TEXT, _BINARY, _CLOSE, _PING, _PONG = 0, 1, 2, 8, 9, 10
+NORMAL, BROKEN, TOO_LONG = 1000, 1002, 1009
+"""Why a connection is closed, by the standard's numbers."""
+_MORE, _TEXT, _CLOSE, _PING, _PONG = 0, 1, 8, 9, 10
 
 
 class Closed(Exception):
-    """The other side has closed the connection, or broke off."""
+    """The other side has closed the connection, broke off, or sent what can't be taken; `code` is what it is to be told."""
+
+    def __init__(self, reason: str, code: int = NORMAL) -> None:
+        super().__init__(reason)
+        self.code = code
 
 
 class _Frame(NamedTuple):
@@ -28,7 +42,7 @@ class _Frame(NamedTuple):
 
 def accept_key(key: str) -> str:
     """What answers a handshake's key."""
-    return base64.b64encode(hashlib.sha1((key + _GUID).encode("ascii")).digest()).decode("ascii")
+    return base64.b64encode(hashlib.sha1((key + _GUID).encode("ascii", "replace")).digest()).decode("ascii")
 
 
 def new_key() -> str:
@@ -37,55 +51,70 @@ def new_key() -> str:
 
 
 class WebSocket:
-    """A connection after its handshake. A client masks what it sends, as the standard asks."""
+    """A connection after its handshake. A client masks what it sends, as the standard asks; `most` bounds a message's bytes."""
 
-    def __init__(self, reader: BinaryIO, writer: BinaryIO, is_client: bool = False) -> None:
-        self._reader, self._writer, self._is_client = reader, writer, is_client
+    def __init__(self, reader: BinaryIO, writer: BinaryIO, is_client: bool = False, most: int = MESSAGE_BYTES) -> None:
+        self._reader, self._writer, self._is_client, self._most = reader, writer, is_client, most
         self._lock = threading.Lock()
 
     def send(self, text: bytes) -> None:
-        """Sends a message of text in UTF-8. An OSError says that the other side is gone."""
+        """Sends a message of text in UTF-8. An OSError says that the other side is gone, or reads nothing."""
         self._write(_TEXT, text)
 
-    def close(self, reason: str = "") -> None:
-        """Says that the connection ends, with at most 123 bytes of words."""
+    def ping(self) -> None:
+        """Asks the other side whether it is there. An OSError says that it isn't."""
+        self._write(_PING, b"")
+
+    def close(self, code: int = NORMAL, reason: str = "") -> None:
+        """Says that the connection ends, with as much of the words as a close holds."""
+        words = reason.encode("utf-8")[:CONTROL_BYTES - 2].decode("utf-8", "ignore").encode("utf-8")
         try:
-            self._write(_CLOSE, struct.pack(">H", 1011 if reason else 1000) + reason.encode("utf-8")[:123].decode("utf-8", "ignore").encode("utf-8"))
+            self._write(_CLOSE, struct.pack(">H", code) + words)
         except (OSError, ValueError):
             pass  # It has ended already.
 
     def messages(self) -> Iterator[bytes]:
-        """The messages that come, until the connection is closed."""
+        """The messages that come, until the connection is closed. What can't be taken closes it."""
         try:
             while True:
                 yield self.receive()
-        except (Closed, OSError, ValueError):
+        except Closed as error:
+            self.close(error.code, str(error) if error.code != NORMAL else "")
+        except (OSError, ValueError):
             return
 
     def receive(self) -> bytes:
-        """The next message; pings are answered."""
-        parts = b""
-        while True:
-            frame = self._frame()
+        """The next message; pings are answered. Closed where there is none."""
+        parts = bytearray()
+        is_begun = False
+        for _ in range(FRAGMENTS):
+            frame = self._frame(self._most - len(parts))
             if frame.kind == _CLOSE:
                 raise Closed(frame.data[2:].decode("utf-8", "replace"))
             if frame.kind == _PING:
                 self._write(_PONG, frame.data)
-            elif frame.kind in (_MORE, _TEXT, _BINARY):
+            elif frame.kind in (_TEXT, _MORE):
+                if is_begun is (frame.kind == _TEXT):
+                    raise Closed("a message begins within another one, or goes on without a beginning", BROKEN)
+                is_begun = True
                 parts += frame.data
-                if len(parts) > MESSAGE_BYTES:
-                    raise Closed("a message is too long")
                 if frame.is_last:
-                    return parts
+                    return bytes(parts)
+            elif frame.kind != _PONG:
+                raise Closed("a frame that is no text", BROKEN)
+        raise Closed("a message has too many fragments", TOO_LONG)
 
-    def _frame(self) -> _Frame:
+    def _frame(self, most: int) -> _Frame:
         first, second = self._read(2)
-        length = second & 127
+        is_masked, length = bool(second & 128), second & 127
         if length >= 126:
             length = int.from_bytes(self._read(2 if length == 126 else 8), "big")
-        if length > MESSAGE_BYTES:
-            raise Closed("a message is too long")
-        mask = self._read(4) if second & 128 else None
+        is_control = bool(first & 8)
+        if first & 0x70 or is_masked is self._is_client or is_control and (length > CONTROL_BYTES or not first & 128):
+            raise Closed("a frame that the standard forbids", BROKEN)
+        if length > most and not is_control:
+            raise Closed("a message is too long", TOO_LONG)
+        mask = self._read(4) if is_masked else None
         return _Frame(bool(first & 128), first & 15, _masked(self._read(length), mask))
 
     def _read(self, length: int) -> bytes:

@@ -202,7 +202,7 @@ _FITS = {
 """What functions on goals and tacticals want, where they refuse some goals."""
 
 _RULES = {
-    "ASSUME": "a term of type bool: write p:bool", "REFL": "a term",
+    "ASSUME": "a term of type bool: annotate what leaves its type open, as p:bool or (P:A->bool) x", "REFL": "a term",
     "SPEC": "a theorem !x. p and a term of x's type: annotate the term, or INST_TYPE the theorem",
     "SYM": "a theorem s = t: of !x. s = t take the ! off by SPEC",
     "CONJUNCT1": "a theorem p /\\ q: of !x. p /\\ q take the ! off by SPEC", "CONJUNCT2": "a theorem p /\\ q: of !x. p /\\ q take the ! off by SPEC",
@@ -210,6 +210,9 @@ _RULES = {
     "INST_TYPE": "pairs of a type and the type variable that it is put for, as [`:bool`, `:A`]",
 }
 """What the rules of theorem expressions want. (REFL takes any term.)"""
+
+_TYPED = ("EXISTS_TAC", "X_GEN_TAC", "X_CHOOSE_TAC", "UNDISCH_TAC")
+"""The functions whose term has to have the type that the goal, or a theorem, has at its place."""
 
 _OF_CALLS = (protocol.HYPOTHESES, protocol.REFUSED)
 """The refusals that name what was run."""
@@ -224,6 +227,26 @@ def _refused(text: str, name: str) -> str:
     """The words for refusal 17. Only a function that is called alone is called on the first goal."""
     if name in _OF_TACTICALS:
         return _OF_TACTICALS[name]
-    is_alone = notation.tokens_before(text, len(text))[1:2] == [name] and not notation.has_tactical(text)
-    goal = "the first goal" if is_alone else "the goal that it is run on"
-    return "%s doesn't fit %s%s" % (name, goal, ": it wants " + _FITS[name] if name in _FITS else "")
+    goal = "the first goal" if is_alone(text, name) else "the goal that it is run on"
+    return "%s doesn't fit %s%s%s" % (name, goal, ": it wants " + _FITS[name] if name in _FITS else "", _left_open(text, name))
+
+
+def is_alone(text: str, name: str) -> bool:
+    """Whether a step's expression is one call of a function, perhaps in parentheses: so that it is run on the first goal."""
+    called = [token for token in notation.tokens_before(text, len(text)) if token != "("][1:2]
+    return called == [name] and not notation.has_tactical(text)
+
+
+def bare_variable(text: str, name: str) -> Optional[Tuple[int, int]]:
+    """The range of a quotation's term that is a name alone, behind a function that wants a term of a certain type: its type is left open."""
+    found = re.search(r"(?<![A-Za-z0-9_'])%s\s*\(?\s*`\s*([A-Za-z_][A-Za-z0-9_']*)\s*`" % re.escape(name), text)
+    return found.span(1) if found and name in _TYPED and found.group(1) not in ("T", "F") else None
+
+
+def _left_open(text: str, name: str) -> str:
+    """What is said of a term whose type nothing says. A quotation is typed by itself, whatever the goal is."""
+    found = bare_variable(text, name)
+    if not found:
+        return ""
+    variable = text[slice(*found)]
+    return "; a variable %s has its type left open here, since a quotation takes none from the goal: write it, as in `%s:A`" % (variable, variable)

@@ -14,7 +14,7 @@ import unittest
 HERE = pathlib.Path(__file__).resolve().parent
 AT_ONCE = 4
 SLOW_SECONDS = 10
-FIRST = ("test_examples", "test_over_program", "Examples", "test_neovim", "hang", "left_out", "faults", "nonsense", "random_edits", "5000")
+FIRST = ("test_examples", "test_python", "test_over_program", "Examples", "test_neovim", "hang", "left_out", "faults", "nonsense", "random_edits", "5000")
 """Words of the names of tests that take long: they begin first."""
 
 

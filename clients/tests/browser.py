@@ -14,7 +14,7 @@ import time
 from holls.websocket import WebSocket, new_key
 
 CHROMIUM = shutil.which("chromium") or shutil.which("chromium-browser") or shutil.which("google-chrome")
-SECONDS = 600
+SECONDS = int(os.environ.get("HOLLS_TEST_SECONDS", "600"))
 """So long something may take to come about, on a machine that does much else."""
 
 
@@ -75,7 +75,7 @@ class Page:
         writer.flush()
         while reader.readline().strip():
             pass
-        self.socket = WebSocket(reader, writer, True)
+        self.socket = WebSocket(reader, writer, True, 1 << 28)
         self.number, self.complaints, self.dialogs = 0, [], []
 
     def call(self, method, **parameters):
@@ -153,7 +153,7 @@ class Page:
         pathlib.Path(file).write_bytes(base64.b64decode(self.call("Page.captureScreenshot", format="png")["data"]))
 
 
-KEYS = {"Enter": 13, "Escape": 27, "Tab": 9, "ArrowUp": 38, "ArrowDown": 40, "ArrowLeft": 37, "ArrowRight": 39, "F8": 119, " ": 32}
+KEYS = {"Enter": 13, "Escape": 27, "Tab": 9, "ArrowUp": 38, "ArrowDown": 40, "ArrowLeft": 37, "ArrowRight": 39, "F4": 115, "F8": 119, " ": 32}
 
 
 def serve(program, *words):

@@ -8,9 +8,9 @@ that are named. As the program does, an edit runs the command that it puts and e
 when these have run, and is made as a whole or not at all; a report runs nothing. Its terms are texts: CONJ_TAC splits at the first ` /\\ `,
 REFL_TAC closes `s = s`, ALL_TAC keeps the goal, and so do those that take their time: SLOW_TAC two seconds, MEET_TAC until a second server
 runs it, and on a goal that has `loop` in it HANG_TAC ten minutes; on one that has `big` in it MEMORY_TAC finds no memory, and DIE_TAC ends
-the process. A fault comes at the Nth request: die (in the middle of a line), end, hang, late (by two seconds), bad (a line that is no reply)
-or memory (the Nth and the next request get the memory line). With --once the fault that ends a process comes in the first process alone,
-which makes FILE. The log gets each request.
+the process. A fault comes at the Nth request: die (in the middle of a line), end, hang, late (by two seconds), bad (a line that is no reply),
+twice (two replies), noise (standard error without end) or memory (the Nth and the next request get the memory line). With --once the fault
+that ends a process comes in the first process alone, which makes FILE. The log gets each request.
 """
 
 import argparse
@@ -18,6 +18,7 @@ import json
 import os
 import re
 import sys
+import threading
 import time
 
 COMMAND = re.compile(r"\s*(\w+)\s*(.*?)\s*\Z", re.S)
@@ -65,6 +66,10 @@ class State:
         other.functions = dict(self.functions)
         other.theorems, other.proof, other.goals = dict(self.theorems), self.proof, list(self.goals)
         return other
+
+    def is_same(self, other):
+        """Whether both states are the same, with their theorems and functions in the same order."""
+        return vars(self) == vars(other) and list(self.theorems) == list(other.theorems) and list(self.functions) == list(other.functions)
 
     def report(self):
         goals = [{"asl": [], "free": ["p:bool"], "goal": goal} for goal in self.goals]
@@ -202,7 +207,7 @@ class Slot:
             name = text[2:].strip()
             take_time(before.functions.get(name, name), before.goals[0])
         self.reply = after.run(text, earlier)
-        self.after = old.after if old.before is not None and vars(old.after) == vars(after) else after
+        self.after = old.after if old.before is not None and old.after.is_same(after) else after
 
     def imported(self, earlier):
         """The state that an import takes from."""
@@ -322,6 +327,13 @@ class Documents:
         return slots[-1].after if slots else EMPTY
 
 
+def make_noise():
+    """Writes to standard error without end, some lines without one."""
+    while True:
+        os.write(2, b"noise " * 1000 + b"\n")
+        time.sleep(0.001)
+
+
 def main():
     words = argparse.ArgumentParser()
     words.add_argument("--serve", default=",".join(EDITS))
@@ -352,6 +364,10 @@ def main():
             os.abort()
         if is_due and kind == "bad":
             reply = "no reply {"
+        if is_due and kind == "twice":
+            reply += "\n" + reply
+        if is_due and kind == "noise":
+            threading.Thread(target=make_noise, daemon=True).start()
         sys.stdout.write(reply + "\n")
         sys.stdout.flush()
 

@@ -4,7 +4,7 @@ local folder = vim.env.FOLDER
 local seconds = 240
 
 vim.g.holls = { command = { vim.env.PYTHON, '-I', '-S', vim.env.HOLLS, 'lsp', '--server', vim.env.SERVER } }
-vim.cmd('filetype plugin on')
+vim.cmd('filetype plugin on | syntax on')
 
 local function said(buffer)
   local found = {}
@@ -78,6 +78,19 @@ local function run()
   keep('a missing end in a second file', count(1))
   vim.cmd('edit ++ff=dos ' .. folder .. '/C.hol')
   keep('an error in a file of CRLF lines', count(1))
+  vim.cmd('edit ' .. folder .. '/E.hol')
+  vim.api.nvim_win_set_cursor(0, { 3, 0 })
+  vim.cmd('doautocmd CursorMoved')
+  vim.wait(seconds * 1000, function() return goals():match('x %+ y = z') ~= nil end, 20)
+  results.notation = goals()
+  vim.cmd('HolPlain')
+  vim.wait(seconds * 1000, function() return goals():match('add x y = z') ~= nil end, 20)
+  results.plain = goals()
+  local names = {}
+  for _, place in ipairs({ { 2, 0 }, { 3, 7 }, { 4, 3 } }) do
+    table.insert(names, vim.fn.synIDattr(vim.fn.synID(place[1], place[2] + 1, 1), 'name'))
+  end
+  results.colours = names
   vim.cmd('edit ' .. folder .. '/D.hol')
   keep('the server has ended in the middle, and all is known', function()
     return #vim.diagnostic.get(0) == 1 and vim.diagnostic.get(0)[1].lnum == 40

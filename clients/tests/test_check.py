@@ -45,7 +45,7 @@ class Checking(unittest.TestCase):
 
     def test_an_open_proof_is_an_error(self):
         status, output, _ = self.check({"A.hol": "g A `x = x`;;\ne REFL_TAC;;\n"})
-        self.assertEqual((status, output.splitlines()[0]), (1, "A.hol:1:1: error: the proof of A is never ended: add qed;; or oops;;"))
+        self.assertEqual((status, output.splitlines()[0]), (1, "A.hol:1:1: error: the proof of A isn't ended yet: add qed;; or oops;;"))
 
     def test_a_forgotten_qed_is_told_at_the_next_goal(self):
         status, output, _ = self.check({"A.hol": "g A `x = x`;;\ne REFL_TAC;;\ng B `x = x`;; e REFL_TAC;; qed;;\n"})
@@ -146,7 +146,7 @@ class Checking(unittest.TestCase):
         status, output, _ = self.check({"A.hol": proofs(1)}, "--json", "--axioms")
         self.assertEqual([json.loads(line) for line in output.splitlines()], [
             {"file": "A.hol", "line": 4, "theorem": "N0", "items": []},
-            {"file": "A.hol", "commands": 4, "theorems": 1, "errors": 0}])
+            {"file": "A.hol", "commands": 4, "theorems": 1, "axioms": 0, "errors": 0}])
         status, _, errors = self.check({"A.hol": proofs(1)}, "--axioms", server=("--fault", "end:10"))
         self.assertEqual((status, errors), (2, "holls: A.hol:4: on what N0 rests isn't known: hol_serve ended, or had no memory\n"))
 
@@ -171,7 +171,7 @@ class Checking(unittest.TestCase):
         self.assertEqual(self.check(files)[0], 0)
         status, output, _ = self.check(files, "--no-axioms", "--allow-axiom", "AX")
         self.assertEqual((status, output.splitlines()), (1, [
-            "A.hol:2:1: error: BX rests on the axiom BX", "A.hol: 6 commands, 1 theorem, 1 error"]))
+            "A.hol:2:1: error: BX rests on the axiom BX", "A.hol: 6 commands, 1 theorem, 2 axioms, 1 error"]))
         self.assertEqual(self.check(files, "--no-axioms", "--allow-axiom", "AX", "--allow-axiom", "BX")[0], 0)
         for words in (["AX"], ["SELECT_AX"], ["NOSUCH"], ["ax", "N0", "ax"]):
             _, _, errors = self.check(files, "--no-axioms", *("--allow-axiom=" + word for word in words))
@@ -191,12 +191,14 @@ class Checking(unittest.TestCase):
         done = subprocess.run([*PYTHON, str(HOLLS), "check", "--server", program, "."], cwd=self.folder, capture_output=True, timeout=SECONDS)
         self.assertEqual((done.returncode, done.stdout.decode().splitlines()), (0, [
             "./one/A.hol: 4 commands, 1 theorem, all accepted", "./two/deep/A.hol: 4 commands, 1 theorem, all accepted",
-            "./two/B.hol: 5 commands, 1 theorem, all accepted"]))
+            "./two/B.hol: 5 commands, 1 theorem, all accepted", "in all: 3 files, 13 commands, 3 theorems, 0 errors"]))
+        done = subprocess.run([*PYTHON, str(HOLLS), "check", "--quiet", "--server", program, "."], cwd=self.folder, capture_output=True, timeout=SECONDS)
+        self.assertEqual((done.returncode, done.stdout), (0, b""))
 
     def check_of(self, *paths):
         """Status and lines over paths in the folder."""
         done = subprocess.run([*PYTHON, str(HOLLS), "check", "--server", fake(self.folder), *paths], cwd=self.folder, capture_output=True, timeout=SECONDS)
-        return done.returncode, done.stdout.decode().splitlines()
+        return done.returncode, [line for line in done.stdout.decode().splitlines() if not line.startswith("in all: ")]
 
     def put(self, files):
         for name, text in files.items():
@@ -286,11 +288,11 @@ class Scheduling(unittest.TestCase):
         units = checking.units({"here": list(files.values())})
         self.assertEqual([[file.theory.name for file in unit.imports] for unit in units], [[], ["A"], [], ["C", "A"]])
         pool = checking.Pool(units, [], 1, False)
-        self.assertEqual(pool.take("", set()).file, files["C"])
-        self.assertEqual(pool.take("here", {files["A"]}).file, files["A"])
-        self.assertEqual(pool.take("here", {files["A"]}).file, files["B"])
-        self.assertEqual(pool.take("there", {files["A"]}).file, files["D"])
-        self.assertIsNone(pool.take("here", set()))
+        self.assertEqual(pool.take(self, "", set()).file, files["C"])
+        self.assertEqual(pool.take(self, "here", {files["A"]}).file, files["A"])
+        self.assertEqual(pool.take(self, "here", {files["A"]}).file, files["B"])
+        self.assertEqual(pool.take(self, "there", {files["A"]}).file, files["D"])
+        self.assertIsNone(pool.take(self, "here", set()))
 
 
 @unittest.skipUnless(BUILT.is_file(), "hol_serve isn't built")
@@ -301,11 +303,11 @@ class Examples(unittest.TestCase):
                 pathlib.Path(folder, name + ".hol").write_text("import %s;;\nnew_constant k `:A`;;\n" % other)
             done = subprocess.run([*PYTHON, str(HOLLS), "check", "--server", str(BUILT), "."], cwd=folder, capture_output=True, timeout=SECONDS)
         circle = "1:1: error: imports go in a circle here: A imports B imports A; take one of them out"
-        self.assertEqual(sorted(done.stdout.decode().splitlines()), [
+        self.assertEqual(sorted(done.stdout.decode().splitlines()[:-1]), [
             line for name in "AB" for line in ("./%s.hol: 2 commands, 0 theorems, 1 error" % name, "./%s.hol:%s" % (name, circle))])
 
     def test_the_first_examples_check(self):
-        files = [str(ROOT / "examples" / "theories" / (name + ".hol")) for name in ("first", "functions", "tacticals")]
+        files = [str(ROOT / "examples" / "theories" / (name + ".hol")) for name in ("first", "applications", "tacticals")]
         done = subprocess.run([*PYTHON, str(HOLLS), "check", "--server", str(BUILT), "--axioms", *files], capture_output=True, timeout=SECONDS)
         self.assertEqual((done.returncode, done.stderr), (0, b""), done.stdout.decode())
 

@@ -32,11 +32,11 @@ class Replies(unittest.TestCase):
     def test_maps(self):
         self.compare("maps")
 
-    def test_pairs(self):
-        self.compare("pairs")
+    def test_pair_type(self):
+        self.compare("pair_type")
 
-    def test_groups(self):
-        self.compare("groups")
+    def test_group_axioms(self):
+        self.compare("group_axioms")
 
     def test_tactics(self):
         self.compare("tactics")
@@ -44,11 +44,11 @@ class Replies(unittest.TestCase):
     def test_laws(self):
         self.compare("laws")
 
-    def test_relations(self):
-        self.compare("relations")
+    def test_converses(self):
+        self.compare("converses")
 
     def test_there_are_no_others(self):
-        self.assertEqual(set(replies.THEORIES), {"connectives", "maps", "pairs", "groups", "tactics", "laws", "relations"})
+        self.assertEqual(set(replies.THEORIES), {"connectives", "maps", "pair_type", "group_axioms", "tactics", "laws", "converses"})
 
     def test_the_readmes_session_is_what_the_program_says(self):
         session = in_fences((ROOT / "README.md").read_text(encoding="utf-8"))

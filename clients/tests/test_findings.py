@@ -7,8 +7,11 @@ import unittest
 from holls import protocol
 from holls.files import File
 from holls.findings import Severity, findings, unknown
-from tests.fake_server import Documents
+from holls.lsp.workspace import Workspace
+from holls.sweep import unknown as jobs_of
+from tests.fake_server import EDITS, Documents
 from tests.helpers import ROOT, proofs
+from tests.test_theory import PIECES, Mirror
 
 CORRECT = (
     proofs(3),
@@ -74,8 +77,50 @@ class WhileReportsCome(unittest.TestCase):
         self.assertEqual(any(finding.severity == Severity.ERROR or finding.is_open for finding in before), not is_correct)
         self.assertEqual(unknown(file), [])
 
+    def test_nor_in_whatever_order_files_edits_and_reports_come(self):
+        """Files that import one another, right and wrong ones, opened and edited in any order: after each report all that was said still is."""
+        for seed in range(12):
+            source, workspace, mirror = random.Random(seed), Workspace(), Mirror(EDITS)
+            documents = {}
+            for step in range(30):
+                self.act(source, workspace, documents)
+                files = [file for group in workspace.groups().values() for file in group]
+                mirror.bring([file.theory for file in files])
+                self.hear(source, mirror, files, (seed, step))
+
+    def act(self, source, workspace, documents):
+        """Opens a file, closes one, or edits one."""
+        name = source.choice("ABC")
+        uri = "file:///%s.hol" % name
+        if uri not in documents:
+            imports = "".join("import %s;;\n" % other for other in "ABC" if other < name and source.random() < 0.7)
+            documents[uri] = workspace.open(uri, 1, imports + source.choice(CORRECT + WRONG).replace("N", name))
+        elif source.random() < 0.1:
+            del workspace.documents[uri], documents[uri]
+        else:
+            lines = documents[uri].file.lines
+            places = sorted(source.randrange(len(lines.text) + 1) for _ in range(2))
+            start, end = (dict(zip(("line", "character"), lines.utf16(place))) for place in (places[0], source.choice(places)))
+            workspace.change(documents[uri], 1, [{"range": {"start": start, "end": end}, "text": source.choice(PIECES)}])
+
+    def hear(self, source, mirror, files, when):
+        """Takes reports one after the other, in any order in which they may come."""
+        before = [findings(file) for file in files]
+        while True:
+            jobs = [job for file in files for job in jobs_of(file.theory, range(len(file.theory.entries)))]
+            if not jobs:
+                break
+            theory, at = source.choice(jobs)
+            theory.entries[at].report = mirror.report(theory, at)
+            theory.settle()
+            now = [findings(file) for file in files]
+            for file, were, are in zip(files, before, now):
+                self.assertEqual([finding for finding in were if finding not in are], [], (when, file.theory.name, theory.name, at))
+            before = now
+        self.assertTrue(all(unknown(file) == [] for file in files), when)
+
     def test_the_programs_own_reports_on_the_examples_give_no_finding_at_any_time(self):
-        for name in ("connectives", "maps", "pairs", "groups"):
+        for name in ("connectives", "maps", "pair_type", "group_axioms"):
             folder = ROOT / "examples" / "theories"
             file = taken((folder / (name + ".hol")).read_text(encoding="utf-8"))
             lines = (folder / (name + ".replies")).read_text(encoding="utf-8").splitlines()

@@ -25,7 +25,7 @@ class Editor:
             stderr=subprocess.PIPE)
         self.messages, self.numbers = queue.Queue(), 0
         self.published, self.versions, self.shown, self.progress, self.unknown = {}, {}, [], [], {}
-        self.ever_said, self.ever_unknown = [], []
+        self.ever_said, self.ever_unknown, self.searched = [], [], []
         self.reader = threading.Thread(target=self._read, daemon=True)
         self.reader.start()
 
@@ -54,7 +54,8 @@ class Editor:
             self.unknown[message["params"]["textDocument"]["uri"]] = message["params"]["processing"]
             self.ever_unknown += message["params"]["processing"]
         elif message.get("method") == "$/progress":
-            self.progress.append(message["params"]["value"]["kind"])
+            is_search = message["params"]["token"].startswith("holls/search/")
+            (self.searched if is_search else self.progress).append(message["params"]["value"]["kind"])
         return message
 
     def ask(self, method, params):
@@ -161,6 +162,21 @@ class Bridging(unittest.TestCase):
         self.assertIn("no proof was found", editor.ask("codeAction/resolve", found[3][0])["message"])
         self.assertEqual(editor.end(), 0)
 
+    def test_what_a_search_tries_is_shown_and_it_can_be_cancelled(self):
+        editor = self.editor(capabilities={"window": {"workDoneProgress": True}})
+        editor.open(self.uri, "g A `x = x`;;\n\ng B `(!x:A. ?y. R x y) ==> (?y. !x. R x y)`;;\n")
+        editor.goals(self.uri, 2, 0)
+        action = {"title": "Find a proof", "data": {"uri": self.uri, "number": 0}}
+        editor.ask("codeAction/resolve", action)
+        kinds = editor.searched
+        self.assertEqual((kinds[0], kinds[-1], set(kinds[1:-1])), ("begin", "end", {"report"}))
+        editor.numbers += 1
+        editor.send("codeAction/resolve", {"title": "Find a proof", "data": {"uri": self.uri, "number": 1}}, editor.numbers)
+        editor.until(lambda: editor.searched.count("begin") == 2)
+        editor.send("$/cancelRequest", {"id": editor.numbers})
+        editor.until(lambda: editor.searched.count("end") == 2)
+        self.assertEqual(editor.end(), 0)
+
     def test_a_session_from_opening_to_the_end(self):
         editor = self.editor()
         editor.open(self.uri, "g A `p /\\ q`;;\ne CONJ_TAC;;\ne FOO;;\n\ng B `x = x`;;\ne REFL_TAC;;\nqed;;\n")
@@ -181,12 +197,17 @@ class Bridging(unittest.TestCase):
         editor.change(self.uri, 2, "NO", ((5 * 50 + 1, 2), (5 * 50 + 1, 5)))
         editor.until(lambda: any(line == 251 and severity == 1 for line, severity, _ in editor.said(self.uri)))
         self.assertEqual(self.edits()[before:], ["replace"])
-        editor.until(lambda: len(self.requests()) > 925)
-        asked = [request["at"] for request in self.requests() if request["op"] == "report"][400:420]
-        self.assertEqual((min(asked), max(asked)), (251, 275))  # What stands above the edit is known, and what is seen comes first.
+        editor.until(lambda: len(self.reports()) == 403)  # The theorem is made all the same, so nothing below the proof can be otherwise.
+        self.assertEqual(self.reports()[400:], [251, 252, 253])
         editor.change(self.uri, 3, "ALL", ((251, 2), (251, 4)))
         editor.until(lambda: editor.said(self.uri) == [])
-        self.assertEqual(editor.versions[self.uri], 3)
+        self.assertEqual((editor.versions[self.uri], len(self.reports())), (3, 403))  # It is the text of before.
+        editor.change(self.uri, 4, "NO", ((252, 2), (252, 6)))
+        editor.until(lambda: len(self.reports()) == 601)  # Where the theorem is missing all below may be otherwise.
+        self.assertEqual((self.reports()[403:408], max(self.reports()[403:])), ([252, 253, 255, 256, 257], 498))
+
+    def reports(self):
+        return [request["at"] for request in self.requests() if request["op"] == "report"]
 
     def test_nothing_is_said_of_a_correct_file_at_any_time_but_what_is_not_known(self):
         editor = self.editor()
@@ -322,7 +343,7 @@ class Bridging(unittest.TestCase):
     def test_a_command_that_an_edit_above_makes_run_too_long_is_found_and_left_out(self):
         editor = self.editor(words=("--seconds", "3"))
         editor.open(self.uri, "g A `x = x`;;\ne ALL_TAC;;\ne HANG_TAC;;\ne REFL_TAC;;\nqed;;\n" + proofs(1))
-        editor.until(lambda: self.uri in editor.published and editor.unknown[self.uri] == [])
+        editor.until(lambda: self.uri in editor.published and editor.unknown.get(self.uri) == [])
         editor.change(self.uri, 2, "loop = loop", ((0, 5), (0, 10)))  # This edit gives no answer.
         self.assertEqual(editor.goals(self.uri, 1, 1)["goals"]["goals"][0]["ty"], "loop = loop")
         editor.until(lambda: editor.said(self.uri) == [(2, 2, "nothing is known of this command")])
@@ -342,7 +363,7 @@ class Bridging(unittest.TestCase):
     def test_a_command_that_finds_no_memory_after_an_edit_above_is_found_and_left_out(self):
         editor = self.editor()
         editor.open(self.uri, "g A `x = x`;;\ne ALL_TAC;;\ne MEMORY_TAC;;\ne REFL_TAC;;\nqed;;\n")
-        editor.until(lambda: self.uri in editor.published and editor.unknown[self.uri] == [])
+        editor.until(lambda: self.uri in editor.published and editor.unknown.get(self.uri) == [])
         editor.change(self.uri, 2, "big = big", ((0, 5), (0, 10)))  # This edit is answered by the memory line.
         editor.until(lambda: editor.said(self.uri) == [(2, 2, "nothing is known of this command")])
         self.assertEqual(editor.goals(self.uri, 4, 1)["messages"], ["thm A |- big = big"])
@@ -407,7 +428,7 @@ class Bridging(unittest.TestCase):
         editor.open(other, "import A;;\nimport C;;\n")
         editor.until(lambda: editor.said(other) == [(1, 1, "there is no file C.hol in %s" % self.folder)])
         editor.open(self.uri, "g A `p = q`;;\n")
-        editor.until(lambda: editor.said(self.uri) == [(0, 2, "the proof of A is never ended")])
+        editor.until(lambda: editor.said(self.uri) == [(0, 3, "the proof of A isn't ended yet")])
         self.assertEqual(editor.goals(other, 0, 1)["messages"], [])
         twin = (self.folder / "sub" / "A.hol").as_uri()
         editor.open(twin, "qed;;")  # Another folder: a project of its own, with a server of its own.
@@ -473,7 +494,7 @@ class Bridging(unittest.TestCase):
         editor.open(self.uri, "g A `p`;;")
         editor.until(lambda: [found[:2] for found in editor.said(own)] == [(0, 1)] and editor.unknown.get(other) == [])
         self.assertIn("there is no file B.hol in %s and below" % (self.folder / "x"), editor.published[own][0]["message"])
-        editor.until(lambda: [found[:2] for found in editor.said(self.uri)] == [(0, 2)])
+        editor.until(lambda: [found[:2] for found in editor.said(self.uri)] == [(0, 3)])
         (self.folder / "hol-project.json").write_text('{"folders": ["x", "y"]}')
         editor.until(lambda: editor.said(own) == [])
         (self.folder / "y" / "hol-project.json").write_text("{}")

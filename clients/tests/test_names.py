@@ -10,6 +10,7 @@ from holls import binders, manual, names, notation, protocol
 from holls.lsp import completion, features, hovering, lookup
 from holls.lsp.navigation import Navigation
 from holls.lsp.workspace import Workspace
+from holls.surface import declarations
 from tests.fake_server import Documents
 from tests.helpers import CLIENTS, ROOT
 
@@ -48,7 +49,7 @@ class InAProject(unittest.TestCase):
         return [one["label"] for one in found], {one["label"]: one["detail"] for one in found}
 
     def test_completion_knows_what_may_stand_where(self):
-        self.assertEqual(set(self.labels("qed;;\n")[0]), set(notation.COMMANDS))
+        self.assertEqual(set(self.labels("qed;;\n")[0]), {*notation.COMMANDS, *manual.DECLARATIONS})
         self.assertEqual(self.labels("import ")[0], ["A", "B", "OTHER"])
         theorems, details = self.labels("ACCEPT_TAC ")
         self.assertLess({"ONCE", "D_DEF", "ABS_REP", "TRUTH", "SPEC", "THEN", "CONJ_TAC"}, set(theorems))
@@ -232,6 +233,10 @@ class Manual(unittest.TestCase):
             self.assertEqual(set(words), set(own))
             matched = next(one["match"] for one in code if one.get("name") == name)
             self.assertEqual(set(re.search(r"\(([a-zA-Z_|]+)\)", matched).group(1).split("|")), set(own))
+        self.assertEqual(set(manual.DECLARATIONS), set(declarations.WORDS))
+        for word in declarations.WORDS:
+            self.assertIn(word, re.search(r"^syntax match holDeclaration (.*)$", vim, re.M).group(1))
+            self.assertIn(word, next(one["match"] for one in code if one.get("name") == "keyword.other.hol"))
 
     def test_the_preludes_statements_are_those_of_the_page(self):
         page = (ROOT / "docs" / "NOTATION.md").read_text(encoding="utf-8")

@@ -24,12 +24,16 @@ class InNeovim(unittest.TestCase):
             (folder / "B.hol").write_text("g A `x = x`;; e REFL_TAC;;\nqed")
             (folder / "C.hol").write_bytes(b"g A `x = x`;;\r\n\r\ne REFL_TAC;;\r\nqed;;\r\nqed;;\r\n")
             (folder / "D.hol").write_text(proofs(8) + "qed;;\n")
+            (folder / "E.hol").write_text("new_constant add `:A->A->A`;;\ninfixr 16 + add;;\ng A `x + y = z`;;\ne ALL_TAC;;\n")
             found = self.run_in(folder)
         self.assertEqual(found.pop("failure", None), None)
         window = found.pop("window")
         self.assertTrue(window.startswith("goal 1 of 2\n  p : bool\n"), window)
         self.assertEqual(found.pop("found"), "ETA_AX |- !t:A->B. (\\x. t x) = t  (the prelude)")
         self.assertEqual(found.pop("concluded"), ["SELECT_AX"])
+        self.assertIn("\n  x + y = z", found.pop("notation"))
+        self.assertIn("\n  add x y = z", found.pop("plain"))
+        self.assertEqual(found.pop("colours"), ["holDeclaration", "holSymbol", "holTactic"])
         for step, seen in found.items():
             self.assertTrue(seen["reached"], (step, seen["said"]))
         places = [said[:2] for said in found["six things to say"]["said"]]

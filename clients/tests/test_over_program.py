@@ -1,5 +1,8 @@
 """`holls lsp` over the built program, where it is."""
 
+import pathlib
+import shutil
+import tempfile
 import unittest
 
 from tests.helpers import BUILT, ROOT
@@ -48,6 +51,41 @@ class OverTheProgram(unittest.TestCase):
         editor.until(lambda: editor.versions.get(uri) == 2 and [one[:2] for one in editor.said(uri)] == [(0, 1)])
         self.assertEqual(editor.end(), 0)
 
+    def test_arithmetic_is_offered_with_the_import_that_it_needs(self):
+        editor = Editor(str(BUILT))
+        self.addCleanup(editor.kill)
+        editor.begin()
+        with tempfile.TemporaryDirectory() as folder:
+            for name in ("logic", "numbers", "arithmetic", "linear"):
+                shutil.copy(str(ROOT / "theories" / (name + ".hol")), folder)
+            path = pathlib.Path(folder) / "mine.hol"
+            path.write_text("import arithmetic;;\n\ng A `le m n ==> lt m (SUC n)`;;\n")
+            uri = path.as_uri()
+            editor.open(uri, path.read_text())
+            editor.goals(uri, 2, 3)
+            span = {side: {"line": 2, "character": 3} for side in ("start", "end")}
+            every = editor.ask("textDocument/codeAction", {"textDocument": {"uri": uri}, "range": span, "context": {"diagnostics": []}})
+            action = next(one for one in every if one["title"] == "Find a proof by arithmetic")
+            edits = editor.ask("codeAction/resolve", action)["edit"]["changes"][uri]
+            self.assertEqual(sorted(one["range"]["start"]["line"] for one in edits), [0, 2])
+            self.assertIn("\nimport linear;;", [one["newText"] for one in edits])
+            self.assertEqual(editor.end(), 0)
 
-if __name__ == "__main__":
-    unittest.main()
+    def test_the_goals_within_a_step_and_the_part_that_is_refused(self):
+        editor = Editor(str(BUILT))
+        self.addCleanup(editor.kill)
+        editor.begin()
+        uri = "file:///inside.hol"
+        text = "g A `p /\\ q ==> q /\\ p`;;\ne STRIP_TAC;;\ne CONJ_TAC THEN ASM_REWRITE_TAC [] THEN ALL_TAC;;\nqed;;\n"
+        text += "g B `!x:A. x = x /\\ (p ==> p)`;;\ne GEN_TAC THEN CONJ_TAC THEN REFL_TAC;;\n"
+        editor.open(uri, text)
+        editor.until(lambda: uri in editor.published)
+        second = editor.hover(uri, 2, text.split("\n")[2].index("ASM_REW") + 1, "before this part")["contents"]["value"]
+        self.assertIn("before this part:\ngoal 1 of 2\n  p : bool\n  q : bool\n  0  p\n  1  q\n  " + "-" * 40 + "\n  q\n", second)
+        first = editor.hover(uri, 2, 3, "before this part")["contents"]["value"]
+        self.assertIn("before this part:\n1 goal\n", first)
+        broken = editor.hover(uri, 5, text.split("\n")[5].index("REFL_TAC") + 1, "refused in this part")["contents"]["value"]
+        self.assertIn("refused in this part, on goal 2 of 2: ", broken)
+        whole = editor.hover(uri, 1, 3, "STRIP_TAC")["contents"]["value"]
+        self.assertNotIn("before this part", whole)
+        self.assertEqual(editor.end(), 0)

@@ -24,6 +24,9 @@ class Package(unittest.TestCase):
                     xml.dom.minidom.parseString(package.read(page))
                 about = json.loads(package.read("extension/package.json"))
                 inside = set(package.namelist())
+                settings = about["contributes"]["configuration"]["properties"]
+                for name in ("holls.command", "holls.server"):  # What a folder's own settings may not name.
+                    self.assertEqual(settings[name]["scope"], "machine")
                 self.assertIn("extension/" + about["main"][2:], inside)
                 for grammar in about["contributes"]["grammars"]:
                     self.assertIn("extension/" + grammar["path"][2:], inside)

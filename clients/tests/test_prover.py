@@ -10,14 +10,15 @@ import unittest
 
 from holls import files, names, server
 from holls.protocol import Goal, Goals
-from holls.prover import command, finding, ground, named, reading, retyping, scope, scripts, sequents, substituting, tables, trying, typed, writing
+from holls.prover import clauses, command, equality, finding, ground, named, reading, retyping, scope, scripts, sequents, substituting, tables, trying
+from holls.prover import typed, writing
 from holls.prover.asking import Asker
 from holls.prover.finder import Finder
 from holls.prover.scripts import Step
 from tests.helpers import BUILT, CLIENTS, HOLLS, PYTHON, ROOT, SECONDS, fake
 
 GOALS = CLIENTS / "tests" / "goals"
-THEORIES = ("connectives", "maps", "pairs", "groups")
+THEORIES = ("connectives", "maps", "pair_type", "group_axioms")
 SEARCH_SECONDS = 10.0
 
 
@@ -155,6 +156,22 @@ class Propositional(unittest.TestCase):
         self.assertEqual(set(proof.equations), set(left[:2]))
 
 
+class Clauses(unittest.TestCase):
+    def test_a_name_for_a_formula_has_no_equations(self):
+        big = " /\\ ".join("(p%d \\/ q%d)" % (at, at) for at in range(7))
+        term = reading.term("!x:A. (?y:A. x = y /\\ P x y) \\/ (%s) \\/ (%s)" % (big, big.replace("p", "r")), reading.Signature(), ty=typed.BOOL)
+        builder = clauses.Builder()
+        builder.add(sequents.Formula(False, term, (0,)), True)
+        builder.add(sequents.Formula(True, term, (1,)), False)
+        self.assertTrue(any(label.atom[0].label.startswith("name") for clause in builder.clauses for label in clause.literals))
+        self.assertTrue(equality.axioms(builder))
+        named = [literal.atom for clause in builder.clauses for literal in clause.literals if literal.atom[0].label.startswith("name")]
+        self.assertIn(typed.fun("A", typed.BOOL), [atom[0].type for atom in named if len(atom) == 2])
+
+
+MODEL = ": the goal is false for A = {0, 1}, P = {0}, x = 0, y = 1"
+
+
 class CommandLine(unittest.TestCase):
     """`holls prove` over a small server made for tests."""
 
@@ -177,7 +194,7 @@ class CommandLine(unittest.TestCase):
     def test_why_none_is_found(self):
         for goal, seconds, why in (
                 ("p ==> q", "30", ": the goal is false for p = T, q = F"), ("F", "30", ": the goal is false"),
-                ("(P:A->bool) x ==> P y", "30", ": all that this search tries was tried"), ("!x. (P:A->bool) x", "30", ": all that this search tries was tried"),
+                ("(P:A->bool) (@x. Q x)", "30", ": all that this search tries was tried"), ("(P:A->bool) x ==> P y", "30", MODEL),
                 ("~" * 190 + "(P:A->bool) x", "30", ": the goal is nested too deeply for this search"),
                 ("(!x:A. P (f x) \\/ P x) ==> ?x. P (f (f x))", "0.01", " within 0.01 seconds")):
             self.assertEqual(self.prove("g A `%s`;;\n" % goal, 1, "--seconds", seconds), (1, "none found%s\n" % why))
@@ -415,10 +432,10 @@ class Theories(unittest.TestCase):
         self.at_least("maps", 5)
 
     def test_pairs(self):
-        self.at_least("pairs", 6)
+        self.at_least("pair_type", 6)
 
     def test_groups(self):
-        self.at_least("groups", 4)
+        self.at_least("group_axioms", 4)
 
 
 if __name__ == "__main__":

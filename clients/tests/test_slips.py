@@ -17,10 +17,12 @@ SLIPS = (
     ("g A `T`;;\n// comment\ne ACCEPT_TAC TRUTH;;\nqed;;", "2:1: error: `//` begins no command; comments are (* .. *)"),
     ("g A `T`;;\ne ACCEPT_TAC TRUTH\nqed;;", "3:1: error: a `;;` is missing before `qed`"),
     ("g A `T`;;\ne ACCEPT_TAC (SPEC `x` REFL_CLAUSE);;\noops;;", "2:15: error: SPEC doesn't fit what it is given: it wants a theorem !x. p"),
-    ("g A `1 + 1 = 2`;;", "1:6: error: no command goes on with `1` here; there are no numerals"),
-    ("g A `x + y = z`;;", "1:8: error: `+` begins no symbol of the notation; there are no operators on numbers"),
-    ("new_constant c `t`;;", "1:17: error: no command goes on with `t` here; a type's quotation begins with `:`"),
-    ("new_definition W `w x x = x`;;", "1:23: error: no command goes on with `x` here; the argument x stands twice"),
+    ("g A `1 + 1 = 2`;;", "1:6: error: unexpected `1`; numerals are notation"),
+    ("g A `x + y = z`;;", "1:8: error: `+` begins no symbol of the notation; operators are notation"),
+    ("new_type set A;;", "1:14: error: unexpected `A`; expected new_type NAME NUM"),
+    ("( g A `T` );;", "1:1: error: unexpected `(`"),
+    ("new_constant c `t`;;", "1:17: error: unexpected `t`; a type's quotation begins with `:`"),
+    ("new_definition W `w x x = x`;;", "1:23: error: unexpected `x`; the argument x stands twice"),
 )
 
 

@@ -1,20 +1,32 @@
 """Keeping theories in step, and what is kept of what is known: random edits of three files that import one another."""
 
+import itertools
 import json
 import pathlib
 import random
+import subprocess
 import tempfile
 import unittest
 
 from holls import protocol
 from holls.difference import INSERT, REMOVE, REPLACE
 from holls.lsp.workspace import Workspace
+from holls.sweep import unknown
 from holls.theory import DROP, NEW, Change, Standing, Theory
-from tests.fake_server import Documents
+from tests.fake_server import EDITS, Documents
+from tests.helpers import BUILT, proofs
 
 NAMES = ("A", "B", "C")
 PIECES = ("g X `p /\\ q`;;\n", "g Y `a = a`;;", "e CONJ_TAC;;\n", "e REFL_TAC;;\n", "qed;;\n", "oops;;\n", "import A;;", "import B;;",
-          "import C;;", "(* c *)", "(*", "*)", ";;", " ", "∀")
+          "import C;;", "(* c *)", "(*", "*)", ";;", " ", "∀", "new_axiom K `p`;;\n", "deftac T REFL_TAC;;\n", "e T;;\n", "foo;;\n",
+          "g X `a = a`;;\ne REFL_TAC;;\nqed;;\n", "g X `p /\\ q`;;\noops;;\n")
+
+
+USES = "g U `(x:A) = x`;;\ne (ACCEPT_TAC X);;\nqed;;\ng V `(x:B) = x`;;\ne (ACCEPT_TAC X);;\nqed;;\n"
+TYPED_TEXT = "g X `(x:A) = x`;;\ne REFL_TAC;;\nqed;;\n" + USES + "g W `p ==> p`;;\ne DISCH_TAC;;\ne (FIRST_ASSUM ACCEPT_TAC);;\nqed;;\n"
+TYPED_PIECES = ("(x:A)", "(x:B)", "x", "g X `(x:B) = x`;;\n", "g X `(x:A) = x`;;\n", "e REFL_TAC;;\n", "qed;;\n", "oops;;\n", "e ALL_TAC;;\n",
+                "new_axiom X `(x:B) = x`;;\n", "foo;;\n", "b;;\n", "T", " ", "import A;;\n", "new_constant p `:bool`;;\n")
+"""A theorem whose type isn't shown, and two that need it."""
 
 
 def of(workspace):
@@ -39,13 +51,47 @@ class Mirror:
             self.begin()
             changes = self.standing.changes(theories, self.served)
         for change in changes:
-            if self.documents.answer(change.line()) != {"ok": True}:
+            if self.answer(change.line()) != {"ok": True}:
                 raise AssertionError(change)
             self.standing.apply(change)
         return len(changes)
 
+    def ask(self, theory):
+        """Asks for what has to be asked for, a few reports at a time. Answers how many."""
+        asked = 0
+        while True:
+            jobs = [at for _, at in itertools.islice(unknown(theory, range(len(theory.entries))), 3)]
+            for at in jobs:
+                theory.entries[at].report = self.report(theory, at)
+            theory.settle()
+            asked += len(jobs)
+            if not jobs and theory.frontier == len(theory.entries):
+                return asked
+
+    def answer(self, line):
+        return self.documents.answer(line)
+
     def report(self, theory, at):
-        return protocol.reply(json.dumps(self.documents.report({"theory": theory.name, "at": at})).encode())
+        return protocol.reply(json.dumps(self.answer(protocol.line({"op": "report", "theory": theory.name, "at": at}))).encode())
+
+
+class ProgramMirror(Mirror):
+    """The program itself, asked one request after the other."""
+
+    def begin(self):
+        self.stop()
+        self.process = subprocess.Popen([str(BUILT)], stdin=subprocess.PIPE, stdout=subprocess.PIPE)
+        self.standing = Standing()
+
+    def stop(self):
+        if hasattr(self, "process"):
+            self.process.kill()
+            self.process.communicate()
+
+    def answer(self, line):
+        self.process.stdin.write(line + b"\n")
+        self.process.stdin.flush()
+        return json.loads(self.process.stdout.readline())
 
 
 class InStep(unittest.TestCase):
@@ -64,23 +110,109 @@ class InStep(unittest.TestCase):
             self.assertEqual(mirror.bring(theories), 0)
             self.compare(mirror, theories, served)
 
-    def edit(self, source, workspace, document):
+    def edit(self, source, workspace, document, pieces=PIECES):
         lines = document.file.lines
         places = sorted(source.randrange(len(lines.text) + 1) for _ in range(2))
         if source.random() < 0.7:
             places[1] = places[0]
-        start, end = (dict(zip(("line", "character"), lines.utf16(place))) for place in places)
-        workspace.change(document, 1, [{"range": {"start": start, "end": end}, "text": source.choice(PIECES)}])
+        self.replace(workspace, document, places, source.choice(pieces))
+
+    @staticmethod
+    def replace(workspace, document, places, text):
+        start, end = (dict(zip(("line", "character"), document.file.lines.utf16(place))) for place in places)
+        workspace.change(document, 1, [{"range": {"start": start, "end": end}, "text": text}])
 
     def compare(self, mirror, theories, served):
         """What was known and is kept is what a fresh server says; what isn't known is asked for."""
         fresh = Mirror(served)
         fresh.bring(theories)
         for theory in theories:
+            mirror.ask(theory)
             for at, entry in enumerate(theory.entries):
-                if entry.report is None:
-                    entry.report = mirror.report(theory, at)
-                self.assertEqual(entry.report, fresh.report(theory, at), (theory.name, at, entry.text))
+                if not entry.is_hidden:
+                    self.assertEqual(entry.report, fresh.report(theory, at), (theory.name, at, entry.text))
+
+    def test_an_edit_in_a_proof_asks_for_no_report_behind_it(self):
+        """Unless the proof is broken, or whole again; and nothing is asked where a text is what it was before."""
+        workspace, mirror = Workspace(), Mirror(EDITS)
+        document = workspace.open("file:///A.hol", 1, proofs(100))
+        theory, place = document.file.theory, document.file.lines.text.index("ALL_TAC")
+        asked = []
+        for places, text in (
+                ((0, 0), ""), ((place, place), "ALL_TAC;;\ne "), ((place, place), "T"), ((place + 1, place + 1), "H"), ((place, place + 1), ""),
+                ((place, place + 1), ""), ((place, place + 11), ""), ((0, 0), "(* c *)"), ((7, 7), "e foo;;\n"), ((11, 11), "o")):
+            self.replace(workspace, document, places, text)
+            of(workspace)
+            mirror.bring([theory])
+            asked.append(mirror.ask(theory))
+        self.assertEqual([asked[1], *asked[3:5], *asked[7:]], [3, 1, 1, 0, 1, 1])
+        self.assertTrue(all(0 <= asked[at] <= 404 for at in (0, 2, 5, 6)), asked)
+        self.compare(mirror, [theory], EDITS)
+
+    @unittest.skipUnless(BUILT.is_file(), "hol_serve isn't built")
+    def test_over_the_program_too_what_is_kept_is_what_a_fresh_one_says(self):
+        """With statements that are shown alike and differ in types, which later proofs need."""
+        mirror, source = ProgramMirror(EDITS), random.Random(5)
+        self.addCleanup(mirror.stop)
+        workspace = Workspace()
+        documents = [workspace.open("file:///%s.hol" % name, 1, TYPED_TEXT if name == "A" else "import A;;\n" + USES) for name in NAMES[:2]]
+        place = TYPED_TEXT.index("A)")
+        self.check_kept(mirror, of(workspace))
+        self.replace(workspace, documents[0], (place, place + 1), "B")  # The theorem is shown as before, and its type is another one.
+        self.check_kept(mirror, of(workspace))
+        self.assertEqual([isinstance(documents[0].file.theory.entries[at].report, protocol.Refusal) for at in (-11, -7)], [True, False])
+        for round_ in range(120):
+            self.edit(source, workspace, source.choice(documents), TYPED_PIECES)
+            if round_ % 12 == 0:
+                self.replace(workspace, documents[0], (0, len(documents[0].file.lines.text)), TYPED_TEXT)
+            self.check_kept(mirror, of(workspace))
+
+    def check_kept(self, mirror, theories):
+        """What was kept or asked for is what the program says."""
+        mirror.bring(theories)
+        for theory in theories:
+            mirror.ask(theory)
+            for at, entry in enumerate(theory.entries):
+                if not entry.is_hidden:
+                    self.assertEqual(entry.report, mirror.report(theory, at), (theory.name, at, entry.text))
+
+    def test_each_theory_stands_behind_all_that_it_imports(self):
+        """1,000 histories of graphs of imports, in which theories come and go: what is said is what a fresh server says, and none is needed."""
+        for seed in range(1000):
+            source, theories, mirror = random.Random(seed), {}, Mirror(EDITS)
+            names = ["T%d" % at for at in range(source.randrange(3, 8))]
+            for _ in range(4):
+                if source.random() < 0.2:
+                    source.shuffle(names)
+                wanted = self.graph(source, names, theories)
+                self.assertIsNotNone(mirror.standing.changes(wanted, EDITS), seed)
+                mirror.bring(wanted)
+                self.assertEqual(mirror.bring(wanted), 0, seed)
+                for theory in wanted:
+                    theory.forget(0)
+                self.compare(mirror, wanted, EDITS)
+
+    @staticmethod
+    def graph(source, names, theories):
+        """Some theories by these names, each importing some before it, in an order in which each comes after its imports."""
+        sent = [name for name in names if source.random() < 0.7]
+        for name in sent:
+            before = names[:names.index(name)]
+            theory = theories.setdefault(name, Theory(name))
+            if source.random() < 0.6 or not set(theory.imports) <= set(before):
+                theory.imports = tuple(source.sample(before, min(len(before), source.randrange(4))))
+            own = [("new_axiom K_%s `p`" % name, False)] * source.randrange(2)
+            theory.want([("import " + other, False) for other in theory.imports] + own)
+        order, waiting = [], source.sample(sent, len(sent))
+        while waiting:
+            missing = [name for name in theories[waiting[-1]].imports if name in sent and theories[name] not in order]
+            if missing:
+                waiting += missing
+            elif theories[waiting[-1]] not in order:
+                order.append(theories[waiting.pop()])
+            else:
+                waiting.pop()
+        return order
 
     def test_a_closed_file_is_dropped_where_that_is_served_and_else_left(self):
         for served, names in ((("drop_theory",), ["B"]), ((), ["A", "B"])):

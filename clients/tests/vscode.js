@@ -97,6 +97,9 @@ async function run() {
   await providers['holls.goals']();
   await until(() => providers.goals.provideTextDocumentContent() !== '');
   results.goals = providers.goals.provideTextDocumentContent();
+  await providers['holls.plain'](); // What has no notation is the same in plain text.
+  results.plain = providers.goals.provideTextDocumentContent();
+  await providers['holls.plain']();
   file.version = 2;
   events.change({ document: file, contentChanges: [{ range: new Range(2, 2, 2, 9), text: 'ALL_TAC' }] });
   await until(() => said().length === 1 && said()[0][0] === 0);

@@ -11,11 +11,13 @@ const GOALS = vscode.Uri.parse('hol-goals:goals');
 const SEEN_MILLISECONDS = 50;
 const SYMBOLS = {
   forall: '∀', exists: '∃', unique: '∃!', lambda: 'λ', select: 'ε', and: '∧', or: '∨', not: '¬', implies: '⇒', iff: '⇔', to: '→',
+  in: '∈', union: '∪', inter: '∩', diff: '∖', subset: '⊆', psubset: '⊂', empty: '∅', leq: '≤', geq: '≥', times: '×', circ: '∘',
 };
 
 let bridge = null;
 let diagnostics = null;
 let goalsText = '';
+let isPlain = false; // Whether goals are shown as the program says them.
 let asked = 0;
 let timer = null;
 const goalsChanged = new vscode.EventEmitter();
@@ -133,7 +135,7 @@ async function showGoals() {
   const number = ++asked;
   const result = await request('proof/goals', at(editor.document, editor.selection.active));
   if (number === asked && result) {
-    goalsText = result.text;
+    goalsText = (isPlain && result.plain) || result.text;
     goalsChanged.fire(GOALS);
   }
 }
@@ -168,6 +170,12 @@ async function search(conclusion) {
   } else if (chosen && editor) {
     await editor.edit((edit) => edit.insert(editor.selection.active, chosen.label));
   }
+}
+
+// Shows the goals as the program says them, or again in the notation of the file.
+function plain() {
+  isPlain = !isPlain;
+  return showGoals();
 }
 
 async function openGoals() {
@@ -294,6 +302,7 @@ function register() {
     window.onDidChangeTextEditorVisibleRanges(seen),
     window.onDidChangeActiveTextEditor(() => { showUnknown(); seen(); }),
     commands.registerCommand('holls.goals', openGoals),
+    commands.registerCommand('holls.plain', plain),
     commands.registerCommand('holls.search', () => search(false)),
     commands.registerCommand('holls.searchConclusions', () => search(true)),
     commands.registerCommand('holls.restart', restart),

@@ -8,7 +8,8 @@ from typing import TYPE_CHECKING, Any, Callable, Dict, List, Optional
 
 from holls import binders, protocol, words
 from holls.files import File
-from holls.lsp import completion, features, goals, helping, hovering, lookup, proving
+from holls.lsp import completion, features, goals, helping, hovering, lookup, numerals, proving
+from holls.lsp.inside import Inside
 from holls.lsp.navigation import Navigation
 from holls.lsp.workspace import Document
 from holls.manual import COMMANDS
@@ -53,6 +54,8 @@ class Answers:
     def __init__(self, bridge: "Bridge") -> None:
         self.bridge = bridge
         self.waiters: List[Waiter] = []
+        self.progress = proving.Progress(bridge)
+        self.inside = Inside(bridge)
         self.navigation = Navigation(bridge.workspace)
         self.served: Dict[str, Callable[[Any, Params], Optional[Answered]]] = {
             "textDocument/hover": self._hover,
@@ -70,6 +73,7 @@ class Answers:
             "codeLens/resolve": self._resolve,
             "textDocument/documentSymbol": self._symbols,
             "textDocument/foldingRange": self._foldings,
+            "hol/manual": lambda _, __: Answered(helping.manual_of_all()),
         }
 
     def document(self, params: Params) -> Document:
@@ -82,6 +86,8 @@ class Answers:
     def cancel(self, params: Params) -> List[Any]:
         """Drops a request that waits. Answers its number, if there is one."""
         gone = [waiter for waiter in self.waiters if waiter.number == params.get("id")]
+        for waiter in gone:
+            self.progress.cancel_request(waiter.number)
         self.waiters = [waiter for waiter in self.waiters if waiter not in gone]
         return [waiter.number for waiter in gone]
 
@@ -149,6 +155,7 @@ class Answers:
             if state is None:
                 return None
             state = replace(state, errors=[]) if before else state
+            state = state.plain or state if params.get("plain") else state
             reply = {"textDocument": {"uri": document.uri, "version": document.version}, "position": params["position"]}
             if at is not None:
                 reply["range"] = features.span(file, file.commands[at].start, file.commands[at].end)
@@ -171,8 +178,11 @@ class Answers:
                 if time.monotonic() < until and not self._has_more(document, word, basis):
                     return None
                 text = hovering.of_word(word, basis[-1] if basis else None)
+                there = self._goals_there(document, place) if word.entry and text else ""
+                if there is None and time.monotonic() < until:
+                    return None
                 if text:
-                    return _hover_of(file, text + (self._goals_there(file, place) if word.entry else ""), word.start, word.end)
+                    return _hover_of(file, text + (there or ""), word.start, word.end)
             return self._hover_goals(document, place, basis, until)
 
         return self._wait(number, attempt, until)
@@ -193,11 +203,13 @@ class Answers:
                 "holls_types", ["import " + document.file.theory.name, question], lambda reply: more.append(_type(reply)))
         return len(more) > 1
 
-    @staticmethod
-    def _goals_there(file: File, place: int) -> str:
-        """The goals after the command at a place, if they are known."""
-        known = goals.state(file, file.number_at(place))
-        return "\n\n" + hovering.fenced(goals.text(known)) if isinstance(known, goals.State) else ""
+    def _goals_there(self, document: Document, place: int) -> Optional[str]:
+        """The goals before the part of a step at a place, or those after the command there, if they are known; None while they are asked for."""
+        inside = self.inside.text(document, place)
+        if inside:
+            return "\n\n" + hovering.fenced(inside)
+        known = goals.state(document.file, document.file.number_at(place))
+        return None if inside is None else "\n\n" + hovering.fenced(goals.text(known)) if isinstance(known, goals.State) else ""
 
     def _hover_goals(self, document: Document, place: int, basis: List[Optional[str]], until: float) -> Optional[Answered]:
         """The goals after the command at a place, or the theorem that it made."""
@@ -212,21 +224,23 @@ class Answers:
         rests = basis[-1] + "\n" if name and basis and basis[-1] else ""
         return _hover_of(file, hovering.fenced(goals.text(state) + rests), file.commands[at].start, file.commands[at].end)
 
-    def _has_basis(self, document: Document, name: str, basis: List[Optional[str]]) -> bool:
+    def _has_basis(self, document: Document, name: str, basis: List[Optional[str]], keep: Optional[List[str]] = None) -> bool:
         """Whether the words on a theorem's basis are there; they are asked for once."""
         server = self.bridge.server_of(document)
         if server is None or server.session is None or server.failure:
             return True
         if not basis:
             basis.append(None)
-            self._ask_basis(document, name, basis.append)
+            self._ask_basis(document, name, basis.append, keep)
         return basis[-1] is not None
 
-    def _ask_basis(self, document: Document, name: str, then: Callable[[str], None]) -> None:
-        """Asks on what a theorem rests, and hands the words on."""
+    def _ask_basis(self, document: Document, name: str, then: Callable[[str], None], keep: Optional[List[str]] = None) -> None:
+        """Asks on what a theorem rests, and hands the words on; `keep` takes the items."""
         def answer(reply: object) -> None:
             items = reply.items if isinstance(reply, protocol.Items) else None
             then("(what it rests on isn't known)" if items is None else words.rests(items))
+            if keep is not None:
+                keep.extend(items or ["unknown"])
 
         self.bridge.server_of(document).session.ask(protocol.line({"op": "basis", "theory": document.file.theory.name, "name": name}), answer)
 
@@ -250,14 +264,15 @@ class Answers:
         files = self._files(document)
         every = self.bridge.workspace.every_file(document.project, files)
         found = helping.actions(document.file, document.uri, files, every, start, end)
-        return Answered(found + proving.offers(document.file, document.uri, start))
+        found += numerals.offers(document.file, files, document.uri, start)
+        return Answered(found + proving.offers(self.bridge, document, files, start))
 
     def _resolve_action(self, number: Any, params: Params) -> Optional[Answered]:
         """What the action 'find a proof' does, once a search in a thread has ended."""
         data = params["data"]
         document = self.document({"textDocument": data})
         try:
-            search = proving.begin(self.bridge, document, self._files(document), int(data["number"]))
+            search = proving.begin(self.bridge, document, self._files(document), int(data["number"]), str(data.get("kind")))
         except proving.NotFound as error:
             raise BadParams(str(error)) from None
 
@@ -266,6 +281,7 @@ class Answers:
                 return None
             return Answered(dict(params, edit=proving.edit(search, self.bridge.workspace.documents.get(search.uri))))
 
+        self.progress.begin(search, number)
         return self._wait(number, attempt)
 
     def _signature(self, _: Any, params: Params) -> Answered:
@@ -292,7 +308,12 @@ class Answers:
         document = self.document(params)
         files = self._files(document)
         theories = list(dict.fromkeys([file.theory.name for file in files] + document.project.names()))
-        return Answered(completion.at(files, theories, document.file, document.place(params["position"])))
+        place = document.place(params["position"])
+        known = goals.state(document.file, document.file.number_at(place))
+        free = known.goals.goals[0].free if isinstance(known, goals.State) and known.goals and known.goals.goals else ()
+        found = completion.at(files, theories, document.file, place, free)
+        most = self.bridge.options.get("mostCompletions")
+        return Answered(completion.likeliest(found, document.file, place, int(most)) if most else found)
 
     def _lenses(self, _: Any, params: Params) -> Answered:
         document = self.document(params)
@@ -301,12 +322,13 @@ class Answers:
     def _resolve(self, number: Any, params: Params) -> Optional[Answered]:
         document = self.document({"textDocument": {"uri": params["data"]["uri"]}})
         basis: List[Optional[str]] = []
+        items: List[str] = []
 
         def attempt() -> Optional[Answered]:
-            if not self._has_basis(document, params["data"]["name"], basis):
+            if not self._has_basis(document, params["data"]["name"], basis, items):
                 return None
             title = basis[-1] if basis and basis[-1] else "proved"
-            return Answered(dict(params, command={"title": title, "command": ""}))
+            return Answered(dict(params, command={"title": title, "command": ""}, data=dict(params["data"], items=items)))
 
         return self._wait(number, attempt)
 

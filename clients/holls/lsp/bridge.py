@@ -9,23 +9,30 @@ import sys
 import threading
 import time
 from dataclasses import dataclass
-from typing import Any, BinaryIO, Callable, Dict, FrozenSet, Iterator, List, Optional
+from typing import Any, BinaryIO, Callable, Dict, FrozenSet, Iterator, List, Optional, Union
 
 from holls import server
 from holls.lsp import wire
 from holls.lsp.answers import Answered, Answers, BadParams
 from holls.lsp.project_server import ProjectServer
-from holls.lsp.proving import Search
+from holls.lsp.proving import Search, Searches, Tried
 from holls.lsp.publisher import Publisher
 from holls.lsp.workspace import Document, Workspace
+from holls.projects import OneProject
 from holls.server import Ended, Line, NoServer
 
 LOOK_SECONDS = 1.0
 """So often files on disk are looked at."""
+READ_SECONDS = 20.0
+"""So often at most the statements are read ahead of a search."""
+TOGETHER = 256
+"""So many lines of the programs are heard together at most."""
+HELD_MESSAGES, HELD_LAST_SECONDS = 32, 2.0
+"""So many messages of a page wait at most, and so long its bridge lasts behind it. An editor on this machine may have more under way."""
 SPARE_SECONDS = 0.01
 """So long at a time what can wait is done while nothing comes."""
 
-NOT_STARTED, BAD_JSON, BAD_REQUEST, NO_METHOD, BAD_PARAMS, CANCELLED = -32002, -32700, -32600, -32601, -32602, -32800
+NOT_STARTED, BAD_JSON, BAD_REQUEST, NO_METHOD, BAD_PARAMS, INTERNAL, CANCELLED = -32002, -32700, -32600, -32601, -32602, -32603, -32800
 
 CAPABILITIES = {
     "positionEncoding": "utf-16",
@@ -41,7 +48,7 @@ CAPABILITIES = {
     "workspaceSymbolProvider": True,
     "documentLinkProvider": {},
     "codeLensProvider": {"resolveProvider": True},
-    "executeCommandProvider": {"commands": ["holls.restart"]},
+    "executeCommandProvider": {"commands": ["holls.restart", "holls.stop"]},
 }
 
 Params = Dict[str, Any]
@@ -63,21 +70,38 @@ class Probed:
     failure: Optional[str]
 
 
+@dataclass(frozen=True)
+class Limits:
+    """What an editor may have. With `is_held` it holds its files itself: none is read from disk but those of the library.
+
+    So many of its messages wait at most, each of so many bytes; then nothing more of it is read. Behind its end what waits has `last_seconds`.
+    """
+
+    is_held: bool = False
+    library: Optional[str] = None
+    messages: int = 1000
+    message_bytes: int = wire.MESSAGE_BYTES
+    last_seconds: float = 60.0
+
+
 class Bridge:
     """The state of one editor's session. Everything happens in the thread that calls `run`."""
 
-    def __init__(self, output: BinaryIO, named: Optional[str], seconds: float) -> None:
-        self.events: "queue.Queue[object]" = queue.Queue()
-        self.output, self.named, self.seconds = output, named, seconds
-        self.workspace = Workspace()
+    def __init__(self, output: BinaryIO, named: Optional[str], seconds: float, limits: Limits) -> None:
+        self.events: "queue.SimpleQueue[object]" = queue.SimpleQueue()
+        self.output, self.named, self.seconds, self.limits = output, named, seconds, limits
+        self.room = threading.Semaphore(limits.messages)
+        self.options: Dict[str, Any] = {}
+        self.workspace = Workspace(OneProject(limits.library) if limits.is_held else None)
         self.publisher = Publisher(self)
         self.program: Optional[Program] = None
         self.failure: Optional[str] = None
         self.servers: Dict[str, ProjectServer] = {}
         self.answers = Answers(self)
+        self.searches = Searches()
         self.is_probing = self.is_begun = self.is_shut = False
         self.status: Optional[int] = None
-        self._look_at = 0.0
+        self._look_at = self._read_at = 0.0
         self._spare: Iterator[None] = iter(())
         self._has_spare = False
 
@@ -85,33 +109,55 @@ class Bridge:
         """Until the editor ends."""
         while self.status is None:
             try:
-                self._take(self.events.get(timeout=0.0 if self._has_spare else self._patience()))
+                self._take_all(self.events.get(timeout=0.0 if self._has_spare else self._patience()))
             except queue.Empty:
                 self._guard(self._spend)
             self._guard(self._settle)
-        for server in self.servers.values():
-            server.stop()
+        self.end_programs()
         return self.status
+
+    def end_programs(self) -> None:
+        """Ends the programs that run for this session."""
+        for server in list(self.servers.values()):
+            server.stop()
+        self.searches.stop()
 
     def _patience(self) -> Optional[float]:
         """How long nothing has to be done."""
         now = time.monotonic()
-        times = self.publisher.times() + self.answers.times() + ([self._look_at] if self.workspace.documents else [])
+        looks = [self._look_at] if self.workspace.documents and not self.limits.is_held else []
+        times = self.publisher.times() + self.answers.times() + looks
         waits = [max(0.0, moment - now) for moment in times if moment is not None]
         return min(waits + [wait for server in self.servers.values() for wait in server.patience()], default=None)
 
+    def _take_all(self, event: object) -> None:
+        """Takes an event, with those that wait already: what the programs say is heard together, up to the editor's next message."""
+        heard: List[Union[Line, Ended]] = []
+        while True:
+            if not isinstance(event, (Line, Ended)):
+                self._hear(heard)
+                self._take(event)
+                return
+            heard.append(event)
+            if len(heard) == TOGETHER or self.events.empty():
+                self._hear(heard)
+                return
+            event = self.events.get_nowait()
+
+    def _hear(self, heard: List[Union[Line, Ended]]) -> None:
+        for server in list(self.servers.values()) if heard else []:
+            self._guard(lambda server=server: server.session.hear(*heard) if server.session else None)
+
     def _take(self, event: object) -> None:
-        if isinstance(event, (Line, Ended)):
-            for server in list(self.servers.values()):
-                self._guard(lambda server=server: server.session.hear(event) if server.session else None)
-        elif isinstance(event, Probed):
+        if isinstance(event, Probed):
             self._guard(lambda: self._begin(event))
         elif isinstance(event, int):
             self.status = event
-        elif isinstance(event, Search):
-            pass  # The request that waits for it is answered after each event.
+        elif isinstance(event, (Search, Tried)):
+            self._guard(lambda: self.answers.progress.take(event))  # The request that waits for it is answered after each event.
         else:
             self._guard(lambda: self._message(event))
+            self.room.release()
 
     def _guard(self, work: Callable[[], None]) -> None:
         """An error in here is told to the editor and ends nothing."""
@@ -126,7 +172,7 @@ class Bridge:
         """After each event: times, answers that can be given, diagnostics."""
         for server in self.servers.values():
             server.settle()
-        if self.workspace.documents and time.monotonic() >= self._look_at:
+        if self.workspace.documents and not self.limits.is_held and time.monotonic() >= self._look_at:
             self._look_at = time.monotonic() + LOOK_SECONDS
             if self.workspace.is_stale():
                 self._changed(None)
@@ -135,8 +181,10 @@ class Bridge:
 
     def all_known(self) -> None:
         """All that was asked for is known: there is time to read the statements for searches."""
-        self._spare = self.answers.navigation.reading([server.files for server in self.servers.values()])
-        self._has_spare = True
+        if time.monotonic() >= self._read_at and not self.limits.is_held:
+            self._read_at = time.monotonic() + READ_SECONDS
+            self._spare = self.answers.navigation.reading([server.files for server in self.servers.values()])
+            self._has_spare = True
 
     def _spend(self) -> None:
         """Does some of what can wait."""
@@ -169,30 +217,41 @@ class Bridge:
         if message is None:
             self.error(None, BAD_JSON, "not JSON")
             return
-        method, number, params = message.get("method"), message.get("id"), message.get("params") or {}
-        if method is None:
+        if "method" not in message and ("result" in message or "error" in message):
             return  # A reply to a request of ours.
-        if "id" not in message:
+        method, number = message.get("method"), message.get("id")
+        params = {} if message.get("params") is None else message["params"]
+        is_named = isinstance(number, (str, int)) or "id" not in message
+        if not isinstance(method, str) or not is_named:
+            self.error(number if is_named else None, BAD_REQUEST, "no request: `method` has to be a text, and `id` a number or a text")
+        elif "id" not in message:
             self._notification(method, params)
-        elif method == "initialize":
-            self._initialize(number, params)
+        elif not isinstance(params, dict):
+            self.error(number, BAD_PARAMS, "bad parameters: they have to be an object")
         elif self.is_shut:
             self.error(number, BAD_REQUEST, "the session is over")
-        elif not self.is_begun:
+        elif not self.is_begun and method != "initialize":
             self.error(number, NOT_STARTED, "initialize comes first")
         else:
             self._request(method, number, params)
 
-    def _initialize(self, number: Any, params: Params) -> None:
-        self.is_begun = True
-        self.publisher.take_capabilities(params.get("capabilities") or {})
-        self.send({"id": number, "result": {"capabilities": CAPABILITIES, "serverInfo": {"name": "holls"}}})
+    def _initialize(self, _: Any, params: Params) -> Answered:
+        if self.is_begun:
+            raise BadParams("initialize comes once")
+        given = params.get("initializationOptions")
+        options = given if isinstance(given, dict) else {}
+        seconds = min(self.seconds, max(1.0, float(options.get("seconds") or self.seconds)))
+        capabilities = params.get("capabilities") or {}
+        self.publisher.take_capabilities(capabilities, options)
+        self.answers.progress.take_capabilities(capabilities)
+        self.options, self.seconds, self.is_begun = options, seconds, True
         self._probe()
+        return Answered({"capabilities": CAPABILITIES, "serverInfo": {"name": "holls"}})
 
     def _request(self, method: str, number: Any, params: Params) -> None:
+        """Answers a request, or refuses it: there is a reply to each."""
         served = dict(self.answers.served)
-        served["shutdown"] = self._shutdown
-        served["workspace/executeCommand"] = self._execute
+        served.update({"initialize": self._initialize, "shutdown": self._shutdown, "workspace/executeCommand": self._execute})
         if method not in served:
             self.error(number, NO_METHOD, "no method %s" % method)
             return
@@ -200,17 +259,21 @@ class Bridge:
             done = served[method](number, params)
         except BadParams as error:
             self.error(number, BAD_PARAMS, str(error))
-            return
-        except (KeyError, TypeError, ValueError, AttributeError) as error:
+        except (LookupError, TypeError, ValueError, AttributeError, ArithmeticError) as error:
             self.error(number, BAD_PARAMS, "bad parameters: %s: %s" % (type(error).__name__, error))
-            return
-        if done is not None:
-            self.send({"id": number, "result": done.result})
+        except BrokenPipeError:
+            raise
+        except Exception as error:  # noqa: BLE001: told as this request's failure
+            self.error(number, INTERNAL, "an error in the bridge: %s: %s" % (type(error).__name__, error))
+        else:
+            if done is not None:
+                self.send({"id": number, "result": done.result})
 
     def _notification(self, method: str, params: Params) -> None:
         served = {
             "textDocument/didOpen": self._open, "textDocument/didChange": self._change, "textDocument/didClose": self._close,
             "textDocument/didSave": self._save, "proof/viewRange": self._view, "$/cancelRequest": self._cancel,
+            "window/workDoneProgress/cancel": self.answers.progress.cancel,
             "workspace/didChangeWatchedFiles": self._watched,
         }
         if method == "exit":
@@ -253,6 +316,7 @@ class Bridge:
         document.cursor = document.place(params["position"]) if params.get("position") else document.cursor
         server = self.server_of(document)
         if server:
+            server.work_on(document.file)
             server.sweep.prefer(document.view())
             if server.session:
                 server.session.pump()
@@ -301,10 +365,15 @@ class Bridge:
         self.program = None
 
     def _execute(self, _: Any, params: Params) -> Answered:
-        if params["command"] != "holls.restart":
+        if params["command"] == "holls.stop":
+            for server in self.servers.values():
+                if server.session:
+                    server.session.stop_running()
+        elif params["command"] == "holls.restart":
+            self._stop()
+            self._probe()
+        else:
             raise BadParams("no command %s" % params["command"])
-        self._stop()
-        self._probe()
         return Answered(None)
 
     def _shutdown(self, _: Any, __: Params) -> Answered:
@@ -325,30 +394,50 @@ def _probed(named: Optional[str]) -> Probed:
         return Probed(None, str(error))
 
 
-def _listen(stream: BinaryIO, events: "queue.Queue[object]") -> None:
-    """Hands the editor's messages on; at the end, the status to end with."""
+def _listen(stream: BinaryIO, events: "queue.SimpleQueue[object]", room: threading.Semaphore, most: int) -> None:
+    """Hands the editor's messages on, as long as there is room; at the end, the status to end with."""
     try:
         while True:
+            room.acquire()
             try:
-                message = wire.read(stream)
+                message = wire.read(stream, most)
             except wire.BadJson:
                 events.put(None)
                 continue
             if message is None:
-                events.put(1)
-                return
+                break
             events.put(message)
     except (wire.Malformed, OSError) as error:
         print("holls: %s" % error, file=sys.stderr)
-        events.put(1)
+    events.put(1)
+
+
+def _serve(bridge: Bridge, stream: BinaryIO) -> None:
+    """Hears the editor until it is gone. What it still wanted is of no use then: all ends in a while, whatever waits."""
+    _listen(stream, bridge.events, bridge.room, bridge.limits.message_bytes)
+    time.sleep(bridge.limits.last_seconds)
+    try:
+        bridge.end_programs()
+    finally:
+        os._exit(1)
+
+
+def add_words(words: argparse.ArgumentParser) -> None:
+    """The command line's words."""
+    words.add_argument("--server", metavar="PROGRAM", help="the program hol_serve")
+    words.add_argument("--seconds", type=int, default=120, help="how long one command may take (120)")
+    words.add_argument("--held", action="store_true", help="the editor holds its files itself, as the page does: none is read from disk")
+    words.add_argument("--library", metavar="DIR", help="with --held: a folder of theories that its files may import")
 
 
 def main(given: argparse.Namespace) -> int:
     """Serves one editor on standard input and output. Ends the process itself, since a thread may still wait for input."""
-    bridge = Bridge(sys.stdout.buffer, given.server, given.seconds)
-    threading.Thread(target=_listen, args=(sys.stdin.buffer, bridge.events), daemon=True).start()
-    status = bridge.run()
+    limits = Limits(True, given.library, HELD_MESSAGES, last_seconds=HELD_LAST_SECONDS) if given.held else Limits()
+    bridge = Bridge(sys.stdout.buffer, given.server, given.seconds, limits)
+    threading.Thread(target=_serve, args=(bridge, sys.stdin.buffer), daemon=True).start()
+    status = 1
     try:
+        status = bridge.run()
         sys.stdout.flush()
     finally:
         os._exit(status)

@@ -65,6 +65,7 @@ def theorem(file: File, number: int) -> Optional[str]:
 def lenses(file: File, uri: str) -> List[Dict[str, Any]]:
     """A lens above each proof that made its theorem."""
     made = [(first, theorem(file, last)) for first, last in names.blocks(file)]
+    shown = {one.name: one.shown for one in names.known(file) if one.kind == THEOREM and one.is_made}
     return [
-        {"range": span(file, file.commands[first].start, file.commands[first].start), "data": {"uri": uri, "name": name}}
+        {"range": span(file, file.commands[first].start, file.commands[first].start), "data": {"uri": uri, "name": name, "statement": shown.get(name)}}
         for first, name in made if name is not None]

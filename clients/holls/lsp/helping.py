@@ -9,6 +9,7 @@ from holls.files import File
 from holls.findings import findings
 from holls.fixes import fixes
 from holls.lsp import features, lookup
+from holls.lsp.completion import SYMBOL_NAMES
 from holls.text import Command
 
 _CLOSERS = {")": "(", "]": "["}
@@ -30,6 +31,13 @@ def actions(file: File, uri: str, files: Sequence[File], every: Sequence[File], 
     return found
 
 
+def manual_of_all() -> Dict[str, Any]:
+    """All words of the notation, with how each is written and what it does; and the symbols' names."""
+    kinds = {"commands": manual.COMMANDS, "declarations": manual.DECLARATIONS, "functions": manual.FUNCTIONS, "tacticals": manual.TACTICALS, "rules": manual.RULES}
+    told = {kind: {name: {"form": entry.form, "does": entry.does} for name, entry in entries.items()} for kind, entries in kinds.items()}
+    return dict(told, symbols=SYMBOL_NAMES)
+
+
 def _line(text: str, place: int) -> Tuple[int, int]:
     """The first and the last place of the line that a place is in."""
     end = text.find("\n", place)
@@ -41,6 +49,7 @@ def signature(file: File, place: int) -> Optional[Dict[str, Any]]:
     command = lookup.command_at(file, place) or _command_before(file, place)
     if command is None or command.word not in notation.STEPS:
         return None
+    command = command.as_written
     offset = command.offset(place) if place <= command.end else len(command.text)
     before = notation.tokens_before(command.text[:offset] + " ", offset + 1)
     entry, number = _open_call(before)

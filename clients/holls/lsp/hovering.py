@@ -4,10 +4,11 @@ from __future__ import annotations
 
 from typing import Optional
 
-from holls import binders, manual, names
+from holls import binders, manual, names, notation
 from holls.files import File
 from holls.lsp.lookup import Word
 from holls.names import CONSTANT, IN_TERMS, TACTIC, THEOREM, Known
+from holls.view import PLAIN
 
 KINDS = {THEOREM: "theorem", CONSTANT: "constant", TACTIC: "function on goals"}
 
@@ -19,9 +20,14 @@ def of_word(word: Word, more: Optional[str]) -> Optional[str]:
     if word.theory:
         return "the theory %s" % word.theory
     if word.known is None:
-        return fenced("%s : %s" % (word.name, more)) if more else None
+        return fenced("%s : %s" % (word.name, word.view.type(more))) if more else None
     known = word.known
-    lines = [fenced(known.line)]
+    lines = [fenced(known.line(word.view))]
+    operator = word.view.table.of_constant.get(known.name) if known.kind == CONSTANT else None
+    if operator:
+        lines.append("written `%s`: infix%s %d" % (operator.symbol, operator.grouping[0], operator.precedence))
+    if known.line(word.view) != known.line(PLAIN):
+        lines.append("in plain:\n" + fenced(known.line(PLAIN)))
     if known.file is None:
         lines.append("%s of the prelude" % _of_prelude(known))
     else:
@@ -47,7 +53,7 @@ def question(file: File, word: Word) -> Optional[str]:
     """
     if not word.is_quoted:
         return None
-    place = word.command.offset(word.start)
+    place = notation.word_at(word.command.text, word.command.offset(word.start))[0]
     used = binders.names(word.command.text, place)
     is_other = any(
         one.name in used and one.kind in IN_TERMS and file.commands[one.number].start > word.command.start for one in names.written(file))

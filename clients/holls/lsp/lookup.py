@@ -2,20 +2,22 @@
 
 from __future__ import annotations
 
-from dataclasses import dataclass
+from dataclasses import dataclass, replace
 from typing import Optional, Sequence
 
 from holls import binders, manual, names, notation
 from holls.files import File
-from holls.names import CONSTANT, TYPE, Known
+from holls.names import CONSTANT, IN_TERMS, TYPE, Known
 from holls.text import Command
+from holls.view import PLAIN, View
 
 
 @dataclass(frozen=True)
 class Word:
     """A name at a place: its range in the file, the command that it stands in, and whether in a quotation.
 
-    It is one of the notation's own, with an entry; a name that is known; a theory that is imported; or none of these.
+    It is one of the notation's own, with an entry; a name that is known; a theory that is imported; or none of these. In a quotation in notation it is the
+    name for which an operator stands, with the operator's range. `view` is the notation there.
     """
 
     name: str
@@ -26,6 +28,7 @@ class Word:
     entry: Optional[manual.Entry] = None
     known: Optional[Known] = None
     theory: Optional[str] = None
+    view: View = PLAIN
 
 
 def command_at(file: File, place: int) -> Optional[Command]:
@@ -36,34 +39,53 @@ def command_at(file: File, place: int) -> Optional[Command]:
 
 def is_quoted(command: Command, place: int) -> bool:
     """Whether a place of a command's range in the file is in a quotation."""
-    return command.text.count("`", 0, command.offset(place)) % 2 == 1
+    written = command.as_written
+    return written.text.count("`", 0, written.offset(place)) % 2 == 1
 
 
 def word(files: Sequence[File], file: File, place: int) -> Optional[Word]:
     """The name at a place, or behind which it is."""
+    number = file.number_at(place)
     command = command_at(file, place)
-    start, end = notation.word_at(file.lines.text, place)
-    if command is None or start == end or start < command.start:
+    if command is None:
         return None
-    name, quoted = file.lines.text[start:end], is_quoted(command, start)
+    start, end = notation.word_at(file.lines.text, place)
+    view = View.of(file, number)
+    if is_quoted(command, start):
+        found = _quoted(files, file, command, start if end > start else place)
+        return found and replace(found, view=view)
+    if start == end or start < command.start:
+        return None
+    name, written = file.lines.text[start:end], command.as_written
     if command.word == "import" and start > command.start:
         return Word(name, start, end, command, False, theory=name)
-    entry = None if quoted else manual.entry(name)
-    if entry and (name not in manual.COMMANDS or start == command.start):
-        return Word(name, start, end, command, False, entry)
-    offset = command.offset(start)
-    if quoted and binders.is_bound(command.text, offset):
+    entry = manual.entry(name)
+    is_first = name in manual.COMMANDS or name in manual.DECLARATIONS
+    if entry and (not is_first or start == command.start or name in manual.DECLARATIONS and file.is_declaration(number)):
+        return Word(name, start, end, command, False, entry, view=view)
+    kinds = IN_TERMS if file.is_declaration(number) else (names.kind_outside(written, written.offset(start)),)
+    known = _made(file, command, start, name) or names.find(files, file, place, name, kinds)
+    return Word(name, start, end, command, False, known=known, view=view)
+
+
+def _quoted(files: Sequence[File], file: File, command: Command, place: int) -> Optional[Word]:
+    """The name that stands for what is written at a place of a quotation."""
+    offset = command.offset(place)
+    first, last = notation.word_at(command.text, offset)
+    start, end = command.range(first, last)
+    if first == last or not start <= place <= end:
+        return None
+    name = command.text[first:last]
+    if binders.is_bound(command.text, first):
         return Word(name, start, end, command, True)
-    if quoted:
-        kinds = (TYPE,) if binders.is_in_type(command.text, offset) else (CONSTANT,)
-        return Word(name, start, end, command, True, known=names.find(files, file, place, name, kinds))
-    known = _made(file, command, start, name) or names.find(files, file, place, name, (names.kind_outside(command, offset),))
-    return Word(name, start, end, command, False, known=known)
+    kinds = (TYPE,) if binders.is_in_type(command.text, first) else (CONSTANT,)
+    return Word(name, start, end, command, True, known=names.find(files, file, place, name, kinds))
 
 
 def _made(file: File, command: Command, start: int, name: str) -> Optional[Known]:
     """The name at a place as what its command makes, where it does."""
-    if command.word in notation.STEPS and not notation.is_made_name(command.text, command.offset(start)):
+    written = command.as_written
+    if command.word in notation.STEPS and not notation.is_made_name(written.text, written.offset(start)):
         return None
     number = file.number_at(start)
     return next((one for one in names.known(file) if one.number == number and one.name == name), None)

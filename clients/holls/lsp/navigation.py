@@ -10,6 +10,7 @@ from holls.files import File
 from holls.lsp import features, lookup
 from holls.lsp.workspace import Document, Workspace
 from holls.names import THEOREM
+from holls.view import View
 
 MOST = 500
 """So many symbols of a workspace are answered."""
@@ -79,11 +80,13 @@ class Navigation:
 
     def search(self, query: str, of_conclusion: bool, servers: Sequence[Sequence[File]]) -> List[Dict[str, Any]]:
         """The theorems that a query finds in all projects and in the prelude, the best first."""
-        asked = search.query(query, of_conclusion)
-        known = names.PRELUDE + [one for file in self._every(servers) for one in names.known(file)]
+        every = self._every(servers)
+        view = View.of_all(every)
+        asked = search.query(query, of_conclusion, view)
+        known = names.PRELUDE + [one for file in every for one in names.known(file)]
         found = []
         for one in self.index.find(asked, known):
-            result = {"name": one.name, "statement": one.shown, "theory": one.origin, "isMade": one.is_made}
+            result = {"name": one.name, "statement": one.shown_in(view), "plain": one.shown, "theory": one.origin, "isMade": one.is_made}
             found.append(dict(result, location=self.location(one.file, *names.name_range(one))) if one.file else result)
         return found
 

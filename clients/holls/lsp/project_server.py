@@ -13,7 +13,7 @@ from holls.sweep import Sweep
 if TYPE_CHECKING:
     from holls.lsp.bridge import Bridge
 
-REST_SECONDS = 0.2
+REST_SECONDS = 0.1
 """So long after an edit only what is seen is asked for."""
 
 
@@ -48,12 +48,21 @@ class ProjectServer:
         first = graph.ordered_from(self._first, {file.theory.name: file for file in self.files})
         return first + [file for file in self.files if file not in first]
 
+    def work_on(self, file: File) -> None:
+        """Takes which file is worked on now: it comes first, with its imports, of what is still to be run."""
+        if self._first is not file and file in self.files:
+            self._first = file
+            self.sweep.begin(self._in_order())
+            if self.session and not self.session.is_idle:
+                self.bring_in_step()
+
     def bring_in_step(self) -> None:
         """Brings the server in step with the files; it is started where the program is known."""
         if self.session is None and self.bridge.program:
             probed = self.bridge.program
             self.session = Session(
                 probed.words, self.bridge.events, probed.served, self.sweep, self.bridge.told, self.bridge.seconds)
+            self.session.slow_seconds = float(self.bridge.options.get("slow") or self.session.slow_seconds)
         if self.session:
             self.session.want([file.theory for file in self._in_order()])
 

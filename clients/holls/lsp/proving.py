@@ -1,7 +1,9 @@
-"""The code action 'find a proof': offered where a goal is open, and searched for once it is chosen, in a thread and a server of its own."""
+"""The code actions that find proofs: offered where a goal is open, and searched for once one is chosen, in a thread, by a server for searches that
+each project keeps."""
 
 from __future__ import annotations
 
+import re
 import threading
 from dataclasses import dataclass, field
 from typing import TYPE_CHECKING, Any, Dict, List, Optional, Tuple
@@ -10,20 +12,33 @@ from holls import graph
 from holls.files import File
 from holls.fixes import behind
 from holls.lsp import features, goals
-from holls.prover import command
+from holls.prover import command, serving
+from holls.prover.asking import Silent
+from holls.prover.finder import Cancelled, Unprovable
+from holls.prover.warm import Answer, NoGoal, Request, Warm
 from holls.server import NoServer
 
 if TYPE_CHECKING:
     from holls.lsp.bridge import Bridge
     from holls.lsp.workspace import Document
 
-TITLE = "Find a proof"
+TITLE, ARITHMETIC_TITLE, SIMPLER_TITLE = "Find a proof", "Find a proof by arithmetic", "Simplify the goal"
+_ARITHMETIC, _SIMPLER = "arithmetic", "simpler"
+_NUMBERS = re.compile(r"\b(le|lt|GE|GT|add|mult|sub|SUC|PRE|EVEN|ODD|DIV|MOD|EXP)\b")
 
 Params = Dict[str, Any]
 
 
 class NotFound(Exception):
     """A search that comes to nothing; the text says why."""
+
+
+@dataclass(frozen=True)
+class Tried:
+    """What a search tries now."""
+
+    search: "Search"
+    name: str
 
 
 @dataclass(eq=False)
@@ -33,26 +48,145 @@ class Search:
     uri: str
     file: File
     imports: List[File]
+    paths: List[str]
     number: int
-    answer: Optional[command.Answer] = None
+    is_arithmetic: bool = False
+    is_simplifying: bool = False
+    answer: Optional[Answer] = None
     failure: Optional[str] = None
+    is_cancelled: bool = False
     done: threading.Event = field(default_factory=threading.Event)
 
-    def run(self, program: List[str]) -> None:
-        """Searches."""
+    def run(self, warm: Warm, bridge: "Bridge") -> None:
+        """Searches, and says what it tries."""
+        def tell(name: str) -> None:
+            if self.is_cancelled:
+                raise Cancelled
+            bridge.events.put(Tried(self, name))
+
         try:
-            self.answer = command.search(program, self.imports, self.file, self.number, None, command.SECONDS)
-        except (NoServer, command.NoGoal, command.Silent, command.Unprovable) as error:
+            others = command.others(self.file, self.imports, self.paths)
+            self.answer = warm.search(Request(self.file, self.number, self.imports, others, None, command.SECONDS, self.is_arithmetic,
+                                              self.is_simplifying, tell))
+        except Cancelled:
+            self.failure = "the search was cancelled"
+        except (NoServer, NoGoal, Silent, Unprovable) as error:
             self.failure = str(error)
         except Exception as error:  # noqa: BLE001: told as this search's failure
             self.failure = "an error in holls: %s: %s" % (type(error).__name__, error)
         self.done.set()
 
 
-def offers(file: File, uri: str, start: int) -> List[Params]:
-    """The action, where a goal is open behind the command at a place."""
+class Searches:
+    """The servers for searches, one for each project, which answer `holls prove` too."""
+
+    def __init__(self) -> None:
+        self._kept: Dict[str, Tuple[List[str], Warm, Optional[serving.Listener]]] = {}
+
+    def of(self, project: str, program: List[str], is_shared: bool) -> Warm:
+        """The server for a project. It answers `holls prove` where it is to be shared: not where the editor holds the files itself."""
+        kept = self._kept.get(project)
+        if kept is None or kept[0] != program:
+            self._end(project)
+            warm = Warm(program)
+            self._kept[project] = kept = program, warm, _listener(project, program, warm) if is_shared else None
+        return kept[1]
+
+    def stop(self) -> None:
+        """Ends them all."""
+        for project in list(self._kept):
+            self._end(project)
+
+    def _end(self, project: str) -> None:
+        _, warm, listener = self._kept.pop(project, (None, None, None))
+        if listener is not None:
+            listener.close()
+        if warm is not None:
+            threading.Thread(target=warm.stop, daemon=True).start()
+
+
+def _listener(project: str, program: List[str], warm: Warm) -> Optional[serving.Listener]:
+    """What answers `holls prove`; None where no socket can be had."""
+    try:
+        return serving.Listener(serving.address(project, program), command.answering(warm))
+    except (OSError, serving.Unsafe):
+        return None
+
+
+class Progress:
+    """Says what searches try, where the editor shows progress, and takes it that one is to end."""
+
+    def __init__(self, bridge: "Bridge") -> None:
+        self._bridge = bridge
+        self._is_shown = False
+        self._count = 0
+        self._tokens: Dict[str, Tuple[Search, Any]] = {}
+
+    def take_capabilities(self, capabilities: Params) -> None:
+        """Whether the editor shows progress."""
+        self._is_shown = bool((capabilities.get("window") or {}).get("workDoneProgress"))
+
+    def begin(self, search: Search, number: Any) -> None:
+        """A search has begun, for a request."""
+        self._count += 1
+        token = "holls/search/%d" % self._count
+        self._tokens[token] = search, number
+        if self._is_shown:
+            self._bridge.send({"id": token, "method": "window/workDoneProgress/create", "params": {"token": token}})
+            self._say(token, {"kind": "begin", "title": "Finding a proof", "cancellable": True})
+
+    def take(self, event: object) -> None:
+        """What a search tries, or that it has ended."""
+        search = event.search if isinstance(event, Tried) else event
+        for token in [token for token, (other, _) in self._tokens.items() if other is search]:
+            if isinstance(event, Tried):
+                self._say(token, {"kind": "report", "message": event.name})
+            else:
+                self._say(token, {"kind": "end"})
+                del self._tokens[token]
+
+    def _say(self, token: str, value: Params) -> None:
+        if self._is_shown:
+            self._bridge.notify("$/progress", {"token": token, "value": value})
+
+    def cancel(self, params: Params) -> None:
+        """The editor wants a search no more."""
+        found = self._tokens.get(str(params.get("token")))
+        if found is not None:
+            found[0].is_cancelled = True
+
+    def cancel_request(self, number: Any) -> None:
+        """The editor wants the answer to a request no more."""
+        for search, own in self._tokens.values():
+            search.is_cancelled = search.is_cancelled or own == number
+
+
+def offers(bridge: "Bridge", document: "Document", files: List[File], start: int) -> List[Params]:
+    """The actions, where a goal is open behind the command at a place. The server for searches gets ready."""
+    file = document.file
     number = _open_at(file, start)
-    return [] if number is None else [{"title": TITLE, "kind": "quickfix", "data": {"uri": uri, "number": number}}]
+    if number is None:
+        return []
+    if bridge.program is not None:
+        warm = bridge.searches.of(document.project.key, bridge.program.words, not bridge.limits.is_held)
+        threading.Thread(target=_prepare, args=(warm, _imports(document, files)), daemon=True).start()
+    known = goals.state(file, number)
+    first = (known.plain or known).goals.goals[0]
+    is_number = _NUMBERS.search(" ".join((first.conclusion,) + first.assumptions))
+    titles = [(TITLE, "")] + ([(ARITHMETIC_TITLE, _ARITHMETIC)] if is_number else []) + [(SIMPLER_TITLE, _SIMPLER)]
+    return [{"title": title, "kind": "quickfix", "data": {"uri": document.uri, "number": number, "kind": kind}} for title, kind in titles]
+
+
+def _prepare(warm: Warm, imports: List[File]) -> None:
+    try:
+        warm.prepare(imports)
+    except (Silent, NoServer):
+        pass  # The search says so.
+
+
+def _imports(document: "Document", files: List[File]) -> List[File]:
+    by_name = {file.theory.name: file for file in files}
+    return [other.copy() for other in graph.all_imports(document.file, by_name)]
 
 
 def _open_at(file: File, place: int) -> Optional[int]:
@@ -64,29 +198,22 @@ def _open_at(file: File, place: int) -> Optional[int]:
     return number if is_open else None
 
 
-def begin(bridge: "Bridge", document: "Document", files: List[File], number: int) -> Search:
-    """Begins a search in a thread. The bridge gets it as an event when it has ended."""
+def begin(bridge: "Bridge", document: "Document", files: List[File], number: int, kind: str) -> Search:
+    """Begins a search in a thread. The bridge gets what it tries as events, and itself when it has ended."""
     if bridge.program is None:
         raise NotFound("hol_serve isn't running: %s" % (bridge.failure or "it wasn't looked for yet"))
-    by_name = {file.theory.name: file for file in files}
-    imports = [_copy(other) for other in graph.all_imports(document.file, by_name)]
-    search = Search(document.uri, _copy(document.file), imports, number)
-    program = bridge.program.words
+    if not 0 <= number < len(document.file.commands):
+        raise NotFound("the text has changed")
+    paths = command.paths_of(document.project)
+    search = Search(document.uri, document.file.copy(), _imports(document, files), paths, number, kind == _ARITHMETIC, kind == _SIMPLER)
+    warm = bridge.searches.of(document.project.key, bridge.program.words, not bridge.limits.is_held)
 
     def work() -> None:
-        search.run(program)
+        search.run(warm, bridge)
         bridge.events.put(search)
 
     threading.Thread(target=work, daemon=True).start()
     return search
-
-
-def _copy(file: File) -> File:
-    """The same file, which no edit changes."""
-    other = File(file.path)
-    other.take(file.lines.text)
-    other.refuse(file.refused)
-    return other
 
 
 def edit(search: Search, document: Optional["Document"]) -> Params:
@@ -98,11 +225,21 @@ def edit(search: Search, document: Optional["Document"]) -> Params:
     place, text = _insertion(search.file, search.answer)
     if document is None or document.file.lines.text[:place] != search.file.lines.text[:place]:
         raise NotFound("the text above has changed; the proof was:\n" + text.strip())
-    where = features.span(document.file, place, place)
-    return {"changes": {search.uri: [{"range": where, "newText": text}]}}
+    edits = [(place, text)] + ([_imported(search.file, search.answer)] if search.answer.imports else [])
+    return {"changes": {search.uri: [{"range": features.span(document.file, at, at), "newText": added} for at, added in edits]}}
 
 
-def _insertion(file: File, answer: command.Answer) -> Tuple[int, str]:
+def _imported(file: File, answer: Answer) -> Tuple[int, str]:
+    """Where missing imports belong, and their text: behind those that stand above the proof, else before it."""
+    begin = file.proof_begin(answer.number)
+    above = [command for command in file.commands[:begin] if command.word == "import"]
+    lines = ["import %s;;" % name for name in answer.imports]
+    if above:
+        return behind(file, above[-1].end), "".join("\n" + line for line in lines)
+    return file.commands[begin].start, "".join(line + "\n" for line in lines)
+
+
+def _insertion(file: File, answer: Answer) -> Tuple[int, str]:
     """Where steps belong, and their text: a line each, as far to the right as their command."""
     before = file.commands[answer.number]
     place = behind(file, before.end)
@@ -110,4 +247,5 @@ def _insertion(file: File, answer: command.Answer) -> Tuple[int, str]:
     margin = file.lines.text[start:before.start]
     margin = margin if not margin.strip() else ""
     missing = "" if file.lines.text[before.end:place].strip() else ";;"
-    return place, missing + "".join("\n%s%s;;" % (margin, step) for step in answer.steps)
+    steps = [command.in_notation_at(file, answer.number, step) for step in answer.steps]
+    return place, missing + "".join("\n%s%s;;" % (margin, step) for step in steps)

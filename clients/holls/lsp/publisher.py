@@ -3,7 +3,7 @@
 from __future__ import annotations
 
 import time
-from typing import TYPE_CHECKING, Any, Dict, List, Optional
+from typing import TYPE_CHECKING, Any, Dict, List, Optional, Tuple
 
 from holls import findings
 from holls.lsp import features
@@ -18,8 +18,8 @@ NEWS_SECONDS = 0.25
 """So long after news at most."""
 PROGRESS_SECONDS = 0.7
 """Work that takes longer is shown as progress."""
-WAITING, RUNNING_LONG = 1, 2
-"""Why a range isn't known yet."""
+WAITING, RUNNING_LONG, REFUSED = 1, 2, 3
+"""Why a range isn't known yet, or isn't accepted."""
 
 
 class Publisher:
@@ -28,13 +28,14 @@ class Publisher:
     def __init__(self, bridge: "Bridge") -> None:
         self.bridge = bridge
         self._failures: List[str] = []
-        self._shows_progress = self._refreshes_lenses = False
+        self._shows_progress = self._refreshes_lenses = self._shows_refused = False
         self._busy_since: Optional[float] = None
         self._token: Optional[str] = None
         self._tokens = 0
 
-    def take_capabilities(self, capabilities: Dict[str, Any]) -> None:
+    def take_capabilities(self, capabilities: Dict[str, Any], options: Dict[str, Any]) -> None:
         """What the editor can show."""
+        self._shows_refused = bool(options.get("refused"))
         self._shows_progress = bool((capabilities.get("window") or {}).get("workDoneProgress"))
         self._refreshes_lenses = bool(((capabilities.get("workspace") or {}).get("codeLens") or {}).get("refreshSupport"))
 
@@ -102,6 +103,10 @@ class Publisher:
 
     def _send(self, document: Document) -> None:
         document.due = None
+        state = self._state(document)
+        if state == document.state:
+            return  # The news are of other documents.
+        document.state = state
         if document.is_seen_known():
             document.told = document.version
         found = features.diagnostics(document.file)
@@ -110,14 +115,22 @@ class Publisher:
         if failure:
             start = {"line": 0, "character": 0}
             found.insert(0, {"range": {"start": start, "end": start}, "severity": 1, "source": "hol", "message": failure})
-        self._send_unknown(document, failure)
-        if (document.version, found) == document.published:
-            return
-        document.published = document.version, found
-        params = {"uri": document.uri, "diagnostics": found}
-        if document.version is not None:
-            params["version"] = document.version
-        self.bridge.notify("textDocument/publishDiagnostics", params)
+        if (document.version, found) != document.published:
+            document.published = document.version, found
+            params = {"uri": document.uri, "diagnostics": found}
+            if document.version is not None:
+                params["version"] = document.version
+            self.bridge.notify("textDocument/publishDiagnostics", params)
+        self._send_unknown(document, failure)  # Behind what is known, so that who reads that nothing is unknown has read all.
+
+    def _state(self, document: Document) -> Tuple[Any, ...]:
+        """What tells whether there is something new to say of a document."""
+        server, theory = self.bridge.server_of(document), document.file.theory
+        failure = server.failure if server else self.bridge.failure
+        known = sum(entry.report is not None for entry in theory.entries)
+        slow = sum(entry.is_slow for entry in theory.entries)
+        context = [blemish.text for blemish in document.file.context]
+        return document.version, id(server), failure, context, theory.edits, known, slow, self._is_done(document)
 
     def _send_unknown(self, document: Document, failure: Optional[str]) -> None:
         """Shows which commands' outcomes aren't known yet, as Lean's editors show what is being processed."""
@@ -125,8 +138,11 @@ class Publisher:
         found = [
             {"range": features.span(document.file, start, end), "kind": RUNNING_LONG if is_slow else WAITING}
             for start, end, is_slow in ranges]
-        if found != document.unknown:
-            document.unknown = found
+        if self._shows_refused and not failure:
+            found += [{"range": features.span(document.file, *one), "kind": REFUSED} for one in findings.refused(document.file)]
+        key = document.version if self._shows_refused else None, found
+        if key != document.unknown:
+            document.unknown = key
             about = {"uri": document.uri, "version": document.version}
             self.bridge.notify("$/hol/fileProgress", {"textDocument": about, "processing": found})
 

@@ -16,9 +16,9 @@ class BadJson(Exception):
     """A message whose body is no JSON object. The next message can be read."""
 
 
-def read(stream: BinaryIO) -> Optional[Dict[str, Any]]:
-    """The next message, or None at the end."""
-    length = _length(stream)
+def read(stream: BinaryIO, most: int = MESSAGE_BYTES) -> Optional[Dict[str, Any]]:
+    """The next message, of so many bytes at most, or None at the end."""
+    length = _length(stream, most)
     if length is None:
         return None
     body = stream.read(length)
@@ -33,7 +33,7 @@ def read(stream: BinaryIO) -> Optional[Dict[str, Any]]:
     return message
 
 
-def _length(stream: BinaryIO) -> Optional[int]:
+def _length(stream: BinaryIO, most: int) -> Optional[int]:
     """The length that a head names, or None at the end."""
     length = None
     for line in iter(lambda: stream.readline(4096), b""):
@@ -43,12 +43,12 @@ def _length(stream: BinaryIO) -> Optional[int]:
             return length
         name, _, value = line.partition(b":")
         if name.strip().lower() == b"content-length":
-            length = _number(value.strip())
+            length = _number(value.strip(), most)
     return None
 
 
-def _number(value: bytes) -> int:
-    if not value.isdigit() or len(value) > 9 or int(value) > MESSAGE_BYTES:
+def _number(value: bytes, most: int) -> int:
+    if not value.isdigit() or len(value) > 9 or int(value) > most:
         raise Malformed("a Content-Length that is no length")
     return int(value)
 

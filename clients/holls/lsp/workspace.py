@@ -3,13 +3,15 @@
 from __future__ import annotations
 
 import os
+from bisect import bisect_right
 from dataclasses import dataclass
 from typing import Any, Dict, List, Optional, Sequence, Tuple, Union
 from urllib.parse import unquote, urlparse
 
-from holls import files, graph, places, protocol
+from holls import disk, files, graph, places, protocol
+from holls.disk import Moment, changed
 from holls.files import File
-from holls.projects import Moment, Project, Projects, changed
+from holls.projects import OneProject, Project, Projects
 from holls.theory import Job
 
 AROUND = 40
@@ -46,6 +48,7 @@ class Document:
     due: Optional[float] = None
     published: Any = None
     unknown: Any = None
+    state: Any = None
 
     def place(self, position: Dict[str, int]) -> int:
         """The place of an editor's position."""
@@ -60,7 +63,8 @@ class Document:
         start, end = lines.place(first, 0), lines.place(last + 1, 0)
         at = self.file.number_at(self.cursor)
         numbers = [] if at is None else [at] + list(range(self.file.proof_begin(at), at))
-        seen = [number for number, command in enumerate(self.file.commands) if command.end >= start and command.start <= end]
+        first = max(0, bisect_right(self.file.starts, start) - 1)
+        seen = list(range(first + (first < len(self.file.commands) and self.file.commands[first].end < start), bisect_right(self.file.starts, end)))
         numbers += list(range(self.file.proof_begin(seen[0]), seen[-1] + 1)) if seen else []
         slots = [self.file.slot(number) for number in numbers]
         return [(self.file.theory, slot) for slot in slots if slot is not None]
@@ -73,9 +77,9 @@ class Document:
 class Workspace:
     """The documents by their addresses, and the files on disk that they import."""
 
-    def __init__(self) -> None:
+    def __init__(self, projects: Union[Projects, OneProject, None] = None) -> None:
         self.documents: Dict[str, Document] = {}
-        self.projects = Projects()
+        self.projects = projects or Projects()
         self._loaded: Dict[str, Tuple[Moment, File]] = {}
         self._looked_at: Dict[str, Tuple[Moment, File]] = {}
         self._imported: Dict[str, Versions] = {}
@@ -131,8 +135,11 @@ class Workspace:
         """All files of a project: those that are open or sent, and the others on disk."""
         known = {os.path.abspath(file.path): file for file in sent if self.projects.of(file.path) is project}
         known.update((os.path.abspath(document.file.path), document.file) for document in self.documents.values() if document.project is project)
-        others = [self._at(path) for path in project.paths() if os.path.abspath(path) not in known]
-        return list(known.values()) + [file for file in others if file is not None]
+        names = {file.theory.name for file in known.values()} if isinstance(self.projects, OneProject) else ()
+        others = [self._at(path) for path in project.paths() if os.path.abspath(path) not in known and files.theory_name(path) not in names]
+        found = list(known.values()) + [file for file in others if file is not None]
+        graph.share_notation(found)
+        return found
 
     def _at(self, path: str) -> Optional[File]:
         """The file at a path."""
@@ -144,9 +151,8 @@ class Workspace:
             return self._loaded[path][1]
         if path not in self._looked_at or self._looked_at[path][0] != moment:
             try:
-                with open(path, "rb") as stream:
-                    self._looked_at[path] = moment, files.read(path, stream.read())
-            except OSError:
+                self._looked_at[path] = moment, files.read(path, disk.read(path))
+            except disk.CannotRead:
                 return None
         return self._looked_at[path][1]
 
@@ -162,6 +168,8 @@ class Workspace:
             file.is_shadowed = True
             file.context.append(file.first_line(told))
         del found[protocol.THEORIES:]
+        for file in found:
+            file.neighbours = project.paths
         edits = {file.theory.name: (id(file), file.theory) for file in found}
         for file in found:
             imported = [edits[name] for name in file.theory.imports if name in edits]
@@ -203,10 +211,9 @@ class Workspace:
         used.append(path)
         if path not in self._loaded or self._loaded[path][0] != moment:
             try:
-                with open(path, "rb") as stream:
-                    self._loaded[path] = moment, files.read(path, stream.read())
-            except OSError as error:
-                return "%s can't be read: %s" % (path, error.strerror or error)
+                self._loaded[path] = moment, files.read(path, disk.read(path))
+            except disk.CannotRead as error:
+                return "%s %s" % (path, error)
         file = self._loaded[path][1]
         file.is_shadowed = False
         return file

@@ -87,8 +87,8 @@ class Asker:
         self._stand[-1][1].extend(texts)
 
     def forget(self) -> None:
-        """Takes the copy out."""
-        self.ask({"op": "drop_theory", "name": THEORY})
+        """Takes the last theory out, or the copy."""
+        self.ask({"op": "drop_theory", "name": self._stand[-1][0]})
         self._stand.pop()
 
     def report(self, at: int) -> Union[Goals, Made, Refusal, protocol.Error]:

@@ -141,7 +141,10 @@ class Builder:
         """The clauses of which each has one of both sides; a side of many clauses gets a name."""
         if len(left) * len(right) > MOST_CLAUSES and min(len(left), len(right)) > 1:
             self._names += 1
-            symbol = Symbol(None, typed.BOOL, None, 0, "name%d" % self._names)
+            ty = typed.BOOL
+            for term in reversed(formula.terms):
+                ty = typed.fun(term[2], ty)
+            symbol = Symbol(None, ty, None, 0, "name%d" % self._names)
             variables = frozenset(term[1] for term in formula.terms)
             atom = (symbol,) + tuple(term[1] for term in formula.terms)
             for literals, numbers in right:

@@ -6,10 +6,9 @@ open. It answers which clauses were taken, each with the terms of its variables.
 
 from __future__ import annotations
 
-import time
 from typing import Any, Dict, List, NamedTuple, Optional, Sequence, Tuple
 
-from holls.prover import clauses, typed
+from holls.prover import clauses, clock, typed
 from holls.prover.clauses import APPLY, Clause, Coded, Literal, Symbol
 from holls.prover.typed import Term, Type
 
@@ -106,7 +105,7 @@ class Connection:
         if frame is None:
             return True
         self.steps += 1
-        if not self.steps & 255 and time.monotonic() > self.until:
+        if not self.steps & 255 and clock.now() > self.until:
             raise OutOfTime
         if not frame.literals:
             done = self._open(frame.next)

@@ -40,14 +40,16 @@ def _of_type(symbol: Symbol, ty: Type) -> List[Clause]:
 
 
 def _used(builder: Builder) -> List[Tuple[Symbol, int, bool]]:
-    """The symbols that are applied, with the numbers of their arguments, and whether they begin an atom."""
+    """The symbols that are applied, with the numbers of their arguments, and whether they begin an atom; but for names of formulas, which no
+    equation changes."""
     found: Dict[Tuple[Symbol, int, bool], None] = {}
     waiting: List[Tuple[Coded, bool]] = [(literal.atom, True) for clause in builder.clauses for literal in clause.literals]
     while waiting:
         term, is_atom = waiting.pop()
         if isinstance(term, int):
             continue
-        if term[0] is not APPLY and term[0].type is not None and len(term) - 1 > term[0].own and not _is_equality(term[0]):
+        is_named = term[0] is not APPLY and term[0].term is None and term[0].position is None
+        if term[0] is not APPLY and not is_named and len(term) - 1 > term[0].own and not _is_equality(term[0]):
             found[(term[0], len(term) - 1, is_atom)] = None
         waiting += [(argument, False) for argument in term[1:]]
     return list(found)

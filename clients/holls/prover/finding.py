@@ -3,10 +3,9 @@
 from __future__ import annotations
 
 import sys
-import time
 from typing import Callable, Dict, FrozenSet, List, NamedTuple, Optional, Sequence, Set, Tuple
 
-from holls.prover import clauses, connection, equality, ground, matching, sequents, typed
+from holls.prover import clauses, clock, connection, equality, ground, matching, sequents, typed
 from holls.prover.ground import Ground, Instances, Proof
 from holls.prover.sequents import ALPHA, BETA, DELTA, Formula
 from holls.prover.typed import Term, Type
@@ -44,7 +43,7 @@ class Search:
         if found or not has_quantifier(items):
             return found
         for attempt, share in self._attempts(list(items)):
-            now = time.monotonic()
+            now = clock.now()
             if now > self.until:
                 self.is_cut = True
                 return None
@@ -69,7 +68,7 @@ class Search:
 
     def _ground(self, items: Sequence[Item], instances: Instances, kept: Dict, seconds: float) -> Optional[Proof]:
         """The proof at terms that are known."""
-        until = min(self.until, time.monotonic() + seconds)
+        until = min(self.until, clock.now() + seconds)
         try:
             return Ground(instances, kept, self.taken, until).prove(_formulas(items), _names(items))
         except ground.OutOfTime:
@@ -85,10 +84,10 @@ class Search:
             return None
         search = matching.Matching(builder, until)
         proof, rounds = None, 0
-        while proof is None and rounds < most and time.monotonic() < until and search.grow():
+        while proof is None and rounds < most and clock.now() < until and search.grow():
             rounds += 1
-            proof = self._ground(items, _instances(items, search.found), builder.witnesses, min(1.0, until - time.monotonic()))
-        self.is_cut = self.is_cut or time.monotonic() >= until
+            proof = self._ground(items, _instances(items, search.found), builder.witnesses, min(1.0, until - clock.now()))
+        self.is_cut = self.is_cut or clock.now() >= until
         return proof
 
     @staticmethod
@@ -116,7 +115,7 @@ class Search:
             found = sequents.shape(item.is_left, item.term)
             if found.kind in (ALPHA, DELTA):
                 return self._apart(items, at, found, depth, until)
-        budget = time.monotonic() + _INNER_SECONDS if depth else until
+        budget = clock.now() + _INNER_SECONDS if depth else until
         proof = self._ground(items, {}, {}, _PROPOSITIONAL_SECONDS) or self._by_instances(items, True, budget)
         at = _case(items)
         if proof or depth == 0 or at is None:
@@ -125,7 +124,7 @@ class Search:
         parts = sequents.parts(Formula(items[at].is_left, items[at].term), found)
         subs: List[Proof] = []
         for number, part in enumerate(parts):
-            share = time.monotonic() + (until - time.monotonic()) / (len(parts) - number)
+            share = clock.now() + (until - clock.now()) / (len(parts) - number)
             sub = self._split(items[:at] + [Item(part.is_left, part.term, items[at].is_goal)] + items[at + 1:], depth - 1, share)
             if sub is None or part.signed not in sub.used:
                 return sub

@@ -6,10 +6,9 @@ needs is left out, and so is a case that doesn't need what it is a case of.
 
 from __future__ import annotations
 
-import time
 from typing import Dict, FrozenSet, List, NamedTuple, Optional, Sequence, Set, Tuple
 
-from holls.prover import congruence, sequents, typed
+from holls.prover import clock, congruence, sequents, typed
 from holls.prover.sequents import ALPHA, BETA, DELTA, GAMMA, LITERAL, Formula, Position, Shape, Signed
 from holls.prover.typed import Term
 
@@ -83,7 +82,7 @@ class Ground:
 
     def _prove(self, branch: _Branch) -> Optional[Proof]:
         self.steps += 1
-        if not self.steps & 63 and time.monotonic() > self.until:
+        if not self.steps & 63 and clock.now() > self.until:
             raise OutOfTime
         while branch.waiting:
             formula = branch.waiting.pop()

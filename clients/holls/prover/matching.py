@@ -6,10 +6,9 @@ It finds what follows by a few instances from many equations, where connections 
 from __future__ import annotations
 
 import itertools
-import time
 from typing import Dict, Iterator, List, NamedTuple, Optional, Sequence, Set, Tuple
 
-from holls.prover import clauses, typed
+from holls.prover import clauses, clock, typed
 from holls.prover.clauses import APPLY, Builder, Clause, Coded
 from holls.prover.congruence import Congruence
 from holls.prover.connection import Found
@@ -73,7 +72,7 @@ class Matching:
                 for binding in itertools.islice(matches, MOST_MATCHES):
                     if (number, binding) not in self._seen:
                         own[binding] = sum(self._known.sizes[term] for term in binding if term is not None)
-                    if len(own) > MOST_OF_CLAUSE or time.monotonic() > self.until:
+                    if len(own) > MOST_OF_CLAUSE or clock.now() > self.until:
                         break
             new += [(cost, number, binding) for binding, cost in own.items() if cost <= LARGEST]
         new.sort(key=lambda one: one[:2])
@@ -111,7 +110,7 @@ class Matching:
             yield binding
             return
         for root in list(self._known.members):
-            if time.monotonic() > self.until:
+            if clock.now() > self.until:
                 return
             if root in self._known.members:
                 for found in self._match(patterns[0], root, binding):

@@ -8,7 +8,7 @@ from typing import FrozenSet, Iterator, List, Mapping, NamedTuple, Optional, Seq
 
 from holls import protocol
 from holls.protocol import Goal, Goals, Refusal
-from holls.prover import trying
+from holls.prover import clock, trying
 from holls.prover.asking import Asker
 from holls.prover.scripts import Step
 
@@ -58,7 +58,7 @@ class Functions:
         mark = asker.count
         for form in forms:
             for name in self.at(goals.goals[0]):
-                if time.monotonic() > until:
+                if clock.now() > until:
                     return None
                 if below is not None and len(form % "") + _weight(name) >= below:
                     continue
@@ -141,7 +141,7 @@ class Uses:
     def _recorded_calls(self, texts: Sequence[str], subs: Iterator[Step]) -> _Call:
         """Runs calls joined by THEN, and then the steps of the goals that are left."""
         self._calls += 1
-        if self._calls > MOST_CALLS or time.monotonic() > self.until:
+        if self._calls > MOST_CALLS or clock.now() > self.until:
             raise _Refused
         goal, made = self._goals.goals[0], []
         for _ in range(self._run(texts[0])):
@@ -173,7 +173,7 @@ class Uses:
         mark, whole = self.asker.count, trying.cost(call.step)
         found: List[Tuple[int, str, List[_Call]]] = []
         for name in self.functions.at(call.goal):
-            if time.monotonic() > self.until or len("e ") + _weight(name) >= whole:
+            if clock.now() > self.until or len("e ") + _weight(name) >= whole:
                 break
             after = self.functions.after(self.asker, name)
             self.asker.back(mark)

@@ -7,14 +7,17 @@ was refused, is left out.
 from __future__ import annotations
 
 import re
-from typing import Dict, FrozenSet, Iterator, List, Optional, Sequence, Set, Tuple
+from typing import Dict, FrozenSet, Iterator, List, Optional, Sequence, Set
 
 from holls import manual, names
 from holls.files import File
 from holls.prover import reading, typed
+from holls.prover.facts import Fact
 from holls.prover.reading import Signature, Unreadable
 from holls.prover.typed import BOOL, Term, Type, fun
 
+ARITHMETIC = "linear"
+"""The theory on which steps of arithmetic rest."""
 MOST_INSTANCES = 4
 """So many instances of a theorem's types are taken at most."""
 
@@ -30,16 +33,19 @@ class Scope:
         """Of each named function on goals the variables that it names, free in its quotations."""
         self.theorems: Dict[str, Term] = {}
         self.definitions: Dict[str, str] = {"ONE_ONE": "ONE_ONE", "ONTO": "ONTO"}
+        self._facts: Dict[str, Fact] = {}
         for name, text in manual.PRELUDE.items():
             self.theorems[name] = reading.term(text, self.signature)
 
     def add_file(self, file: File, before: Optional[int] = None) -> None:
-        """Takes what a file makes, or what stands before one of its commands."""
+        """Takes what a file makes, or what stands before one of its commands; of the theory of arithmetic no functions, which have a use of
+        their own."""
         for first, last in names.blocks(file):
             if before is not None and last >= before:
                 break
             command = file.commands[first]
-            if command.word == "g" and file.commands[last].text != "qed":
+            is_left_out = command.word == "deftac" and file.theory.name == ARITHMETIC
+            if is_left_out or command.word == "g" and file.commands[last].text != "qed":
                 continue
             try:
                 self._add(command.word, command.text)
@@ -97,6 +103,28 @@ class Scope:
         meets = typed.apply(predicate, r)
         self.theorems[second] = typed.mk_eq(meets, typed.mk_eq(typed.apply(rep_term, typed.apply(abs_term, r)), r))
 
+    def fact(self, name: str) -> Fact:
+        """What is found of a theorem."""
+        found = self._facts.get(name)
+        if found is None or found.term is not self.theorems[name]:
+            found = self._facts[name] = Fact(name, self.theorems[name])
+        return found
+
+    def copy(self) -> "Scope":
+        """The same, to take more."""
+        other = Scope()
+        other.signature = Signature(dict(self.signature.constants), dict(self.signature.constructors))
+        other.functions, other.theorems, other.definitions = dict(self.functions), dict(self.theorems), dict(self.definitions)
+        other._facts = self._facts
+        return other
+
+    def without(self, names: FrozenSet[str]) -> "Scope":
+        """The same without some theorems."""
+        left = Scope()
+        left.signature, left.functions, left.definitions, left._facts = self.signature, self.functions, self.definitions, self._facts
+        left.theorems = {name: said for name, said in self.theorems.items() if name not in names}
+        return left
+
     def keep(self, standing: FrozenSet[str]) -> None:
         """Forgets the theorems that don't stand."""
         self.theorems = {name: term for name, term in self.theorems.items() if name in standing or name in manual.PRELUDE}
@@ -105,24 +133,9 @@ class Scope:
         """A theorem that says something."""
         return next((name for name, term in self.theorems.items() if term == statement), None)
 
-    def nearest(self, terms: Sequence[Term], most: int) -> List[str]:
-        """The theorems that are most like some terms: those that define their constants, those that share constants with them and have few
-        others, and then those that share constants with the definitions."""
-        wanted = frozenset().union(*map(_own_constants, terms)) if terms else frozenset()
-        further = frozenset().union(*(_own_constants(self.theorems[name]) for name in self.defining(terms)))
-        ranked: List[Tuple[Tuple[bool, bool, int, int, int], str]] = []
-        for number, (name, term) in enumerate(self.theorems.items()):
-            own = _own_constants(term)
-            if own & (wanted | further) and name != "INFINITY_AX":
-                is_defining = self.definitions.get(name) in wanted
-                shared = own & wanted or own & further
-                rank = not is_defining, not own & wanted, len(own - wanted - further), -len(shared), typed.size(term) - number
-                ranked.append((rank, name))
-        return [name for _, name in sorted(ranked)[:most]]
-
     def defining(self, terms: Sequence[Term]) -> List[str]:
         """The theorems that define constants of some terms."""
-        wanted = frozenset().union(*map(_own_constants, terms)) if terms else frozenset()
+        wanted = frozenset(constant[1] for term in terms for constant in typed.constants(term))
         return [name for name, constant in self.definitions.items() if constant in wanted and name in self.theorems]
 
 
@@ -137,11 +150,6 @@ def _defined(statement: Term) -> Term:
     while left[0] == "a":
         left = left[1]
     return left
-
-
-def _own_constants(term: Term) -> FrozenSet[str]:
-    """The names of a term's constants that are no connectives."""
-    return frozenset(constant[1] for constant in typed.constants(term) if constant[1] not in _LOGICAL)
 
 
 def instances(statement: Term, terms: Sequence[Term]) -> Iterator[Tuple[Dict[str, Type], Term]]:

@@ -3,11 +3,10 @@
 from __future__ import annotations
 
 import re
-import time
 from typing import List, Optional, Sequence, Tuple
 
 from holls.protocol import Goals
-from holls.prover import typed
+from holls.prover import clock, typed
 from holls.prover.asking import Asker
 from holls.prover.scripts import Step, commands
 from holls.prover.typed import Term
@@ -65,7 +64,7 @@ class Trial:
         """A short step that closes the first goal, if there is one; it is taken back."""
         mark = self.asker.count
         for text in self.closers:
-            if time.monotonic() > self.until:
+            if clock.now() > self.until:
                 break
             found = goals_after(self.asker, text)
             self.asker.back(mark)
@@ -76,7 +75,7 @@ class Trial:
     def run(self, step: Step, open_goals: int) -> Optional[Step]:
         """Runs steps on the first goal. Answers those that were run in the end, or None where one is refused."""
         mark = self.asker.count
-        if cost(step) > len(SHORT) and time.monotonic() < self.until:
+        if cost(step) > len(SHORT) and clock.now() < self.until:
             for text in self.closers:
                 if len(text) >= cost(step):
                     continue
@@ -102,7 +101,7 @@ class Trial:
         while _INTRODUCTION.match(last.text) and len(last.subs) == 1:
             chain.append(last.text)
             last = last.subs[0]
-        if not chain or time.monotonic() > self.until:
+        if not chain or clock.now() > self.until:
             return step
         mark, whole = self.asker.count, " THEN ".join(chain)
         wanted = goals_after(self.asker, whole)
@@ -145,11 +144,46 @@ def fewer(asker: Asker, texts: Sequence[str], goals: Goals, until: float) -> Lis
     for at in reversed(range(len(made))):
         asker.back(mark + at)
         for number in reversed(range(len(made[at]))):
-            rest, now = made[at][:number] + made[at][number + 1:], time.monotonic()
+            rest, now = made[at][:number] + made[at][number + 1:], clock.now()
             if now + longest < until and check(asker, _joined([rest] + made[at + 1:]), goals):
                 made[at] = rest
-            longest = max(longest, time.monotonic() - now)
+            longest = max(longest, clock.now() - now)
     return _joined(made)
+
+
+_LIST = re.compile(r"\[([A-Za-z0-9_'; ]*;[A-Za-z0-9_'; ]*)\]")
+
+
+def shorter(asker: Asker, texts: Sequence[str], goals: Goals, until: float) -> List[str]:
+    """Commands that close the first goal without the theorems in their lists that they don't need, as far as time allows."""
+    made, mark = list(texts), asker.count
+    for text in made[:-1]:
+        goals_after(asker, text[len("e "):])
+    for at in reversed(range(len(made))):
+        asker.back(mark + at)
+        for number in range(len(_LIST.findall(made[at]))):
+            made[at] = _with_shorter_list(asker, made, at, number, goals, until)
+    return made
+
+
+def _with_shorter_list(asker: Asker, texts: Sequence[str], at: int, number: int, goals: Goals, until: float) -> str:
+    """A command with fewer names in one of its lists; those before it stand."""
+    found = list(_LIST.finditer(texts[at]))[number]
+    names = found.group(1).split("; ")
+    width = len(names) // 2
+    while width:
+        start = 0
+        while start < len(names) and len(names) > 1:
+            fewer_names = names[:start] + names[start + width:]
+            text = texts[at][:found.start()] + "[%s]" % "; ".join(fewer_names) + texts[at][found.end():]
+            if clock.now() > until:
+                break
+            if fewer_names and check(asker, [text] + list(texts[at + 1:]), goals):
+                names = fewer_names
+            else:
+                start += width
+        width //= 2
+    return texts[at][:found.start()] + "[%s]" % "; ".join(names) + texts[at][found.end():]
 
 
 def _joined(calls: Sequence[Sequence[str]]) -> List[str]:
@@ -162,7 +196,7 @@ def run_each(asker: Asker, step: Step, open_goals: int, until: float) -> Optiona
     found = goals_after(asker, step.text)
     left = -1 if found is None else len(found.goals) - open_goals + 1
     own = step.subs * left if step.is_each else step.subs
-    if left != len(own) or time.monotonic() > until:
+    if left != len(own) or clock.now() > until:
         return None
     subs: List[Step] = []
     for number, sub in enumerate(own):
@@ -222,3 +256,16 @@ def pieces(text: str) -> List[str]:
             made.append(text[begun:found.start()].strip())
             begun = found.end()
     return made + [text[begun:].strip()]
+
+
+def cuts(text: str) -> List[int]:
+    """Where THEN and THENL begin in a text, outside of brackets; none where ORELSE stands there too."""
+    made, depth = [], 0
+    for found in _PIECE.finditer(text):
+        token = found.group()
+        depth += {"(": 1, "[": 1, ")": -1, "]": -1}.get(token, 0)
+        if depth == 0 and token == "ORELSE":
+            return []
+        if depth == 0 and token in ("THEN", "THENL"):
+            made.append(found.start())
+    return made

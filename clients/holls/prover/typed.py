@@ -143,6 +143,16 @@ def mk_eq(left: Term, right: Term) -> Term:
     return apply(("c", "=", fun(ty, fun(ty, BOOL))), left, right)
 
 
+def mk_forall(variable: Term, body: Term) -> Term:
+    """A formula for all values of a variable."""
+    return ("a", ("c", "!", fun(fun(variable[2], BOOL), BOOL)), abstract(variable, body))
+
+
+def mk_exists(body: Term) -> Term:
+    """A formula for some value, by an abstraction."""
+    return ("a", ("c", "?", fun(fun(body[2], BOOL), BOOL)), body)
+
+
 TRUTH: Term = ("c", "T", BOOL)
 FALSITY: Term = ("c", "F", BOOL)
 

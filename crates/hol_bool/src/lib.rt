@@ -12,6 +12,7 @@ pub use connectives::{
     conjunct1, conjunct2, contr, disch, disj_cases, disj1, disj2, eqf_intro, mp, not_intro, undisch,
 };
 pub use error::{BoolError, Rule};
-pub use hol_derived::{Lemmas, unfold};
+pub use hol_derived::applied::{conj, eqt_intro};
+pub use hol_derived::unfold;
 pub use laws::{rules_keep_hypotheses, rules_widen};
 pub use rules::{choose, exists, generalize, spec};

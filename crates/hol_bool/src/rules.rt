@@ -16,7 +16,7 @@ ghost use Rattle.hol_bool.specs.Refusals.{in_bool};
 ghost use Rattle.hol_bool.specs.declared.error.Rule.TheVariants as rule;
 
 use crate::error::{BoolError, Rule};
-use hol_derived::{Lemmas, contracted, forall_of};
+use hol_derived::{applied, contracted, forall_of};
 use hol_equal::applied::sides_of;
 use hol_formulas::{dest_exists, occurrence};
 use hol_kernel::Thm;
@@ -36,11 +36,9 @@ fn is_free_in_hypotheses(a: &Thm, v: &Variable) -> bool
 ///
 /// Refused by [`Rule::Spec`] where the theorem is no universal quantification, and where `t` is not well typed over the prelude and
 /// the theorem's basis or not of the type of `x`.
-pub fn spec(alloc: Global, lemmas: &mut Lemmas, t: &Term, a: &Thm) -> Result<Thm, BoolError>
-    requires over { lemmas.old ≡ a.now.basis }
+pub fn spec(alloc: Global, t: &Term, a: &Thm) -> Result<Thm, BoolError>
     ensures sequent { Gives in_bool rule.Spec (over a.now.basis (spec_of a.now.basis (nameless [] t.now) a.now.sequent)) result }
     ensures basis { IfOk result (λ th. th.basis ≡ a.now.basis) }
-    ensures kept { lemmas.new ≡ lemmas.old }
 {
     let Some((v, _)) = forall_of(a) else {
         return Err(BoolError::Refused(Rule::Spec));
@@ -48,17 +46,15 @@ pub fn spec(alloc: Global, lemmas: &mut Lemmas, t: &Term, a: &Thm) -> Result<Thm
     if !a.basis().has_type(alloc, t, v.ty())? {
         return Err(BoolError::Refused(Rule::Spec));
     }
-    Ok(lemmas.spec(alloc, t, a)?)
+    Ok(applied::spec(alloc, t, a)?)
 }
 
 /// The rule of generalization (bool.ml, GEN): from `p`, `!v. p`, for a variable that is free in no hypothesis.
 ///
 /// Refused by [`Rule::Gen`] where `v` is no variable or not of a type over the theorem's basis, and where it is free in a hypothesis.
-pub fn generalize(alloc: Global, lemmas: &mut Lemmas, v: &Term, a: &Thm) -> Result<Thm, BoolError>
-    requires over { lemmas.old ≡ a.now.basis }
+pub fn generalize(alloc: Global, v: &Term, a: &Thm) -> Result<Thm, BoolError>
     ensures sequent { Gives in_bool rule.Gen (over a.now.basis (gen_of a.now.basis v.now a.now.sequent)) result }
     ensures basis { IfOk result (λ th. th.basis ≡ a.now.basis) }
-    ensures kept { lemmas.new ≡ lemmas.old }
 {
     let TermNode::Var(variable) = v.node() else {
         return Err(BoolError::Refused(Rule::Gen));
@@ -69,7 +65,7 @@ pub fn generalize(alloc: Global, lemmas: &mut Lemmas, v: &Term, a: &Thm) -> Resu
     if is_free_in_hypotheses(a, variable) {
         return Err(BoolError::Refused(Rule::Gen));
     }
-    Ok(lemmas.generalize(alloc, v, a)?)
+    Ok(applied::generalize(alloc, v, a)?)
 }
 
 // Whether the theorem is, up to bound names, what the body says of `t` for the variable.
@@ -86,43 +82,19 @@ fn says_of(alloc: Global, a: &Thm, x: &Variable, p: &Term, t: &Term) -> Result<b
     Ok(sides.right.alpha_equivalent(a.concl()))
 }
 
-// Whether the variable is free in a hypothesis other than the abstraction's body with it for the bound one.
-fn is_free_beside(
-    alloc: Global,
-    lemmas: &mut Lemmas,
-    v: &Variable,
-    f: &Term,
-    b: &Thm,
-) -> Result<bool, AllocError>
-    requires over { lemmas.old ≡ b.now.basis }
-    requires is { nameless [] f.now ≡ abstraction_term (abstraction_in (nameless [] f.now)) }
-    requires function { HasType b.now.basis (nameless [] f.now) (fun_type v.now.1 bool_type) }
-    requires stands { is_type b.now.basis v.now.1 ≡ true }
-    ensures is { IfOk result (λ is. is ≡ is_free_in (set.items (choose_left v.now b.now.sequent.hyps (abstraction_in (nameless [] f.now)))) v.now) }
-    ensures kept { lemmas.new ≡ lemmas.old }
-{
-    let own = occurrence(alloc, v)?;
-    let rest = lemmas.witness_implies(alloc, &own, f, b)?;
-    Ok(is_free_in_hypotheses(&rest, v))
-}
-
 // Whether the variable is free in a hypothesis other than the body with it for `x`.
 fn is_free_in_left(
     alloc: Global,
-    lemmas: &mut Lemmas,
     v: &Variable,
     x: &Variable,
     p: &Term,
     b: &Thm,
 ) -> Result<bool, AllocError>
-    requires over { lemmas.old ≡ b.now.basis }
-    requires function { HasType b.now.basis (lam (base_of x.now.0) x.now.1 (nameless (x.now ∷ []) p.now)) (fun_type v.now.1 bool_type) }
-    requires stands { is_type b.now.basis v.now.1 ≡ true }
-    ensures is { IfOk result (λ is. is ≡ is_free_in (set.items (choose_left v.now b.now.sequent.hyps (record { base = base_of x.now.0; domain = x.now.1; body = nameless (x.now ∷ []) p.now }))) v.now) }
-    ensures kept { lemmas.new ≡ lemmas.old }
+    requires fits { v.now.1 ≡ x.now.1 }
+    ensures { IfOk result (λ is. is ≡ is_free_in (set.items (choose_left v.now b.now.sequent.hyps (record { base = base_of x.now.0; domain = x.now.1; body = nameless (x.now ∷ []) p.now }))) v.now) }
 {
-    let f = Term::abstraction(alloc, x, p)?;
-    is_free_beside(alloc, lemmas, v, &f, b)
+    let rest = applied::left_of_choice(alloc, v, x, p, b)?;
+    Ok(is_free_in_one(rest.terms(), v))
 }
 
 /// The rule of existence (bool.ml, EXISTS): from `p` with `t` for `x`, up to bound names, the formula `?x. p` that is handed in.
@@ -130,17 +102,9 @@ fn is_free_in_left(
 /// Refused by [`Rule::Exists`] where `e` is no existential quantification or not well typed over the prelude and the theorem's basis, where `t` is not or not of the
 /// type of `x`, and where the theorem is not what `e` says of `t`.
 #[tactic(auto, using(crate::proofs::DisjunctionRules::refused))]
-pub fn exists(
-    alloc: Global,
-    lemmas: &mut Lemmas,
-    e: &Term,
-    t: &Term,
-    a: &Thm,
-) -> Result<Thm, BoolError>
-    requires over { lemmas.old ≡ a.now.basis }
+pub fn exists(alloc: Global, e: &Term, t: &Term, a: &Thm) -> Result<Thm, BoolError>
     ensures sequent { Gives in_bool rule.Exists (over a.now.basis (exists_of a.now.basis (nameless [] e.now) (nameless [] t.now) a.now.sequent)) result }
     ensures basis { IfOk result (λ th. th.basis ≡ a.now.basis) }
-    ensures kept { lemmas.new ≡ lemmas.old }
 {
     let Some((x, p)) = dest_exists(e) else {
         return Err(BoolError::Refused(Rule::Exists));
@@ -154,7 +118,7 @@ pub fn exists(
     if !says_of(alloc, a, x, p, t)? {
         return Err(BoolError::Refused(Rule::Exists));
     }
-    Ok(lemmas.exists(alloc, e, t, a)?)
+    Ok(applied::exists(e, t, a)?)
 }
 
 /// The rule of choice of a witness (bool.ml, CHOOSE): from `?x. s` and `t`, `t` without the hypothesis `s` with `v` for `x`.
@@ -162,18 +126,10 @@ pub fn exists(
 /// Refused by [`Rule::Choose`] where `v` is no variable of the type of `x`, where the first theorem is no existential quantification, and where `v` is free in it, in `t`, or in
 /// another hypothesis of the second.
 #[tactic(auto, using(crate::proofs::DisjunctionRules::refused))]
-pub fn choose(
-    alloc: Global,
-    lemmas: &mut Lemmas,
-    v: &Term,
-    a: &Thm,
-    b: &Thm,
-) -> Result<Thm, BoolError>
-    requires over { lemmas.old ≡ a.now.basis }
+pub fn choose(alloc: Global, v: &Term, a: &Thm, b: &Thm) -> Result<Thm, BoolError>
     requires one_basis { a.now.basis ≡ b.now.basis }
     ensures sequent { Gives in_bool rule.Choose (over a.now.basis (choose_of v.now a.now.sequent b.now.sequent)) result }
     ensures basis { IfOk result (λ th. th.basis ≡ a.now.basis) }
-    ensures kept { lemmas.new ≡ lemmas.old }
 {
     a.well_typed();
     let TermNode::Var(variable) = v.node() else {
@@ -191,8 +147,8 @@ pub fn choose(
     if b.concl().vfree_in(variable) {
         return Err(BoolError::Refused(Rule::Choose));
     }
-    if is_free_in_left(alloc, lemmas, variable, x, p, b)? {
+    if is_free_in_left(alloc, variable, x, p, b)? {
         return Err(BoolError::Refused(Rule::Choose));
     }
-    Ok(lemmas.choose(alloc, v, a, b)?)
+    Ok(applied::choose(alloc, v, a, b)?)
 }

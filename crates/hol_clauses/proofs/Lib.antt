@@ -1,1 +1,1 @@
-pub mod From
+mod Clauses

@@ -1,76 +1,73 @@
-//! ONE_ONE and ONTO as they are read: of each function.
+//! ONE_ONE and ONTO as they are read: of each function (nums.ml).
 ghost use Rattle.std.specs.Prelude.{◌≡◌, IfOk};
-ghost use Rattle.hol_types.specs.Fun.{fun_type};
-ghost use Rattle.hol_terms.specs.Nameless.{free};
-ghost use Rattle.hol_formulas.specs.Constants.{var_a, var_b};
-ghost use Rattle.hol_formulas.specs.Equation.{bool_type};
-ghost use Rattle.hol_formulas.specs.Prelude.{function, statement_of};
-ghost use Rattle.hol_kernel.specs.Items.{no_items};
-ghost use Rattle.hol_kernel.specs.Rules.{postulate_of};
-ghost use Rattle.hol_kernel.specs.Theorem.{theorem_on};
-ghost use Rattle.hol_derived.specs.Applied.{defining, unfolded};
-ghost use Rattle.hol_clauses.specs.Deduction.{concl_of};
 ghost use Rattle.hol_clauses.specs.Statements.{stated, one_one, onto};
 
-use crate::rules::Rules;
-use hol_derived::unfold;
-use hol_formulas::{Postulate, bool_type, function_type, occurrence, variable};
+use crate::stated::theorem;
+use hol_formulas::Sort;
+use hol_formulas::Written::{self, Applied, Connective, Constant, Equation, Quantified, Variable};
 use hol_kernel::Thm;
-use hol_terms::Variable;
 use std::alloc::{AllocError, Global};
 
-// `f:A->B`.
-fn function(alloc: Global) -> Result<Variable, AllocError>
-    ensures { IfOk result (λ v. v ≡ function) }
-{
-    let ty = function_type(alloc)?;
-    variable(alloc, "f", &ty)
-}
+// The parts stand as constants, which a function borrows at no cost to its proof.
 
-// What the definition of a property of functions says of `f`.
-fn unfold_at(alloc: Global, definition: &Thm, f: &Variable) -> Result<Thm, AllocError>
-    requires over { definition.now.basis ≡ no_items }
-    requires function { f.now ≡ function }
-    requires is { concl_of definition.now ≡ defining (fun_type var_a var_b) bool_type (concl_of definition.now) }
-    ensures { IfOk result (λ th. th ≡ theorem_on no_items (unfolded (free function) definition.now.sequent)) }
-{
-    let range = bool_type(alloc)?;
-    let x = occurrence(alloc, f)?;
-    unfold(alloc, definition, f.ty(), &range, &x)
-}
+const FUNCTION: Written<'static> = Variable("f", Sort::Function);
 
-// The same of a property of the prelude.
-fn at_function(alloc: Global, property: Postulate, f: &Variable) -> Result<Thm, AllocError>
-    requires function { f.now ≡ function }
-    requires is { statement_of property ≡ defining (fun_type var_a var_b) bool_type (statement_of property) }
-    ensures { IfOk result (λ th. th ≡ theorem_on no_items (unfolded (free function) (postulate_of property))) }
-{
-    let own = Thm::prelude(alloc, property)?;
-    let made = unfold_at(alloc, &own, f);
-    drop(own);
-    made
-}
+const ONE_ONE: Written<'static> = Constant("ONE_ONE", Sort::OfFunction);
+
+const IS_ONE_ONE: Written<'static> = Applied(&ONE_ONE, &FUNCTION);
+
+const FIRST: Written<'static> = Variable("x1", Sort::Element);
+
+const SECOND: Written<'static> = Variable("x2", Sort::Element);
+
+const AT_FIRST: Written<'static> = Applied(&FUNCTION, &FIRST);
+
+const AT_SECOND: Written<'static> = Applied(&FUNCTION, &SECOND);
+
+const SAME_VALUES: Written<'static> = Equation(Sort::Value, &AT_FIRST, &AT_SECOND);
+
+const SAME_ELEMENTS: Written<'static> = Equation(Sort::Element, &FIRST, &SECOND);
+
+const SAME_IF_VALUES_ARE: Written<'static> = Connective("==>", &SAME_VALUES, &SAME_ELEMENTS);
+
+const FOR_EACH_SECOND: Written<'static> = Quantified("!", "x2", Sort::Element, &SAME_IF_VALUES_ARE);
+
+const INJECTIVE: Written<'static> = Quantified("!", "x1", Sort::Element, &FOR_EACH_SECOND);
+
+const MEANS_INJECTIVE: Written<'static> = Equation(Sort::Truth, &IS_ONE_ONE, &INJECTIVE);
+
+const ONE_ONE_OF_EACH: Written<'static> = Quantified("!", "f", Sort::Function, &MEANS_INJECTIVE);
 
 /// ONE_ONE: `!f. ONE_ONE f <=> (!x1 x2. f x1 = f x2 ==> x1 = x2)`.
-pub fn one_one(alloc: Global, rules: &mut Rules) -> Result<Thm, AllocError>
+pub fn one_one(alloc: Global) -> Result<Thm, AllocError>
     ensures { IfOk result (λ th. th ≡ stated one_one) }
 {
-    let f = function(alloc)?;
-    let own = at_function(alloc, Postulate::OneOne, &f)?;
-    let made = rules.generalize(alloc, &f, &own);
-    drop(own);
-    drop(f);
-    made
+    theorem(alloc, &ONE_ONE_OF_EACH)
 }
 
+const ONTO: Written<'static> = Constant("ONTO", Sort::OfFunction);
+
+const IS_ONTO: Written<'static> = Applied(&ONTO, &FUNCTION);
+
+const ELEMENT: Written<'static> = Variable("x", Sort::Element);
+
+const VALUE: Written<'static> = Variable("y", Sort::Value);
+
+const AT_ELEMENT: Written<'static> = Applied(&FUNCTION, &ELEMENT);
+
+const IS_VALUE: Written<'static> = Equation(Sort::Value, &VALUE, &AT_ELEMENT);
+
+const OF_SOME: Written<'static> = Quantified("?", "x", Sort::Element, &IS_VALUE);
+
+const SURJECTIVE: Written<'static> = Quantified("!", "y", Sort::Value, &OF_SOME);
+
+const MEANS_SURJECTIVE: Written<'static> = Equation(Sort::Truth, &IS_ONTO, &SURJECTIVE);
+
+const ONTO_OF_EACH: Written<'static> = Quantified("!", "f", Sort::Function, &MEANS_SURJECTIVE);
+
 /// ONTO: `!f. ONTO f <=> (!y. ?x. y = f x)`.
-pub fn onto(alloc: Global, rules: &mut Rules) -> Result<Thm, AllocError>
+pub fn onto(alloc: Global) -> Result<Thm, AllocError>
     ensures { IfOk result (λ th. th ≡ stated onto) }
 {
-    let f = function(alloc)?;
-    let own = at_function(alloc, Postulate::Onto, &f)?;
-    let made = rules.generalize(alloc, &f, &own);
-    drop(own);
-    drop(f);
-    made
+    theorem(alloc, &ONTO_OF_EACH)
 }

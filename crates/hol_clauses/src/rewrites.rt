@@ -1,195 +1,220 @@
-//! The basic rewrites.
-ghost use Rattle.std.specs.Prelude.{◌≡◌, IfOk, true, codes};
-ghost use Rattle.hol_terms.specs.Nameless.{free};
-ghost use Rattle.hol_formulas.specs.Equation.{equation};
-ghost use Rattle.hol_formulas.specs.Formula.{truth, falsity, implication, equivalence, negation};
-ghost use Rattle.hol_formulas.specs.Prelude.{boolean, element};
-ghost use Rattle.hol_kernel.specs.Items.{no_items};
-ghost use Rattle.hol_kernel.specs.Typing.{is_type};
-ghost use Rattle.hol_kernel.specs.Theorem.{theorem_on};
-ghost use Rattle.hol_derived.specs.Applied.{generalized};
-ghost use Rattle.hol_clauses.specs.Deduction.{theorem_under, concl_of};
-ghost use Rattle.hol_clauses.specs.Statements.{theorem_of, stated, refl_clause, eq_clauses, not_clauses_weak, and_clauses, or_clauses, imp_clauses};
+//! The basic rewrites (theorems.ml).
+ghost use Rattle.std.specs.Prelude.{◌≡◌, IfOk};
+ghost use Rattle.hol_clauses.specs.Statements.{stated, refl_clause, eq_clauses, not_clauses_weak, and_clauses, or_clauses, imp_clauses};
 
-use crate::conjunction::conj_rewrites;
-use crate::deduction::{assumed, assumed_falsity, both};
-use crate::disjunction::disj_rewrites;
-use crate::equality::eq_rewrites;
-use crate::implication::{always, imp_rewrites, truth_implies};
-use crate::negation::denial;
-use crate::rules::Rules;
-use hol_equal::applied::refl;
-use hol_formulas::{bool_type, occurrence, type_variable, variable};
-use hol_kernel::{Basis, Thm};
-use hol_terms::Variable;
+use crate::stated::theorem;
+use hol_formulas::Sort;
+use hol_formulas::Written::{self, Applied, Connective, Constant, Equation, Quantified, Variable};
+use hol_kernel::Thm;
 use std::alloc::{AllocError, Global};
 
-// `t:bool`.
-fn truth_value(alloc: Global) -> Result<Variable, AllocError>
-    ensures { IfOk result (λ v. v ≡ boolean (codes "t")) }
-{
-    let ty = bool_type(alloc)?;
-    variable(alloc, "t", &ty)
-}
+// The parts stand as constants, which a function borrows at no cost to its proof.
 
-// `{t} |- t`.
-fn assumed_truth_value(alloc: Global) -> Result<Thm, AllocError>
-    ensures { IfOk result (λ th. th ≡ theorem_under (free (boolean (codes "t"))) (free (boolean (codes "t")))) }
-{
-    let v = truth_value(alloc)?;
-    let made = occurrence(alloc, &v);
-    drop(v);
-    let p = made?;
-    assumed(alloc, &p)
-}
+const TRUTH: Written<'static> = Constant("T", Sort::Truth);
 
-// `x:A`.
-fn any_element(alloc: Global) -> Result<Variable, AllocError>
-    ensures { IfOk result (λ v. v ≡ element (codes "x")) }
-{
-    let ty = type_variable(alloc, "A")?;
-    variable(alloc, "x", &ty)
-}
+const FALSITY: Written<'static> = Constant("F", Sort::Truth);
 
-// `x = x`, for a variable of a type over the prelude.
-fn itself(alloc: Global, v: &Variable) -> Result<Thm, AllocError>
-    requires { is_type no_items v.now.1 ≡ true }
-    ensures { IfOk result (λ th. th ≡ theorem_of (equation v.now.1 (free v.now) (free v.now))) }
-{
-    let basis = Basis::empty(alloc)?;
-    let x = occurrence(alloc, v)?;
-    refl(alloc, &basis, v.ty(), &x)
-}
+const ELEMENT: Written<'static> = Variable("x", Sort::Element);
 
-// `x = x <=> T`, for the same.
-fn itself_holds(alloc: Global, rules: &mut Rules, v: &Variable) -> Result<Thm, AllocError>
-    requires { is_type no_items v.now.1 ≡ true }
-    ensures { IfOk result (λ th. th ≡ theorem_of (equivalence (equation v.now.1 (free v.now) (free v.now)) truth)) }
-{
-    let same = itself(alloc, v)?;
-    let made = rules.eqt_intro(alloc, &same);
-    drop(same);
-    made
-}
+const ITSELF: Written<'static> = Equation(Sort::Element, &ELEMENT, &ELEMENT);
+
+const ITSELF_HOLDS: Written<'static> = Equation(Sort::Truth, &ITSELF, &TRUTH);
+
+const REFL_CLAUSE: Written<'static> = Quantified("!", "x", Sort::Element, &ITSELF_HOLDS);
 
 /// REFL_CLAUSE: `!x:A. x = x <=> T`.
-pub fn refl_clause(alloc: Global, rules: &mut Rules) -> Result<Thm, AllocError>
+pub fn refl_clause(alloc: Global) -> Result<Thm, AllocError>
     ensures { IfOk result (λ th. th ≡ stated refl_clause) }
 {
-    let x = any_element(alloc)?;
-    let holds = itself_holds(alloc, rules, &x)?;
-    let made = rules.generalize(alloc, &x, &holds);
-    drop(holds);
-    drop(x);
-    made
+    theorem(alloc, &REFL_CLAUSE)
 }
 
-// `!t. p`, from `p`.
-fn for_truth_values(alloc: Global, rules: &mut Rules, p: &Thm) -> Result<Thm, AllocError>
-    requires { p.now ≡ theorem_of (concl_of p.now) }
-    ensures { IfOk result (λ th. th ≡ theorem_on no_items (generalized (boolean (codes "t")) p.now.sequent)) }
-{
-    let t = truth_value(alloc)?;
-    let made = rules.generalize(alloc, &t, p);
-    drop(t);
-    made
-}
+const NOT: Written<'static> = Constant("~", Sort::Negation);
 
-/// EQ_CLAUSES: the rewrites of `<=>`.
-pub fn eq_clauses(alloc: Global, rules: &mut Rules) -> Result<Thm, AllocError>
-    ensures { IfOk result (λ th. th ≡ stated eq_clauses) }
-{
-    let own = assumed_truth_value(alloc)?;
-    let made = eq_rewrites(alloc, rules, &own);
-    drop(own);
-    let all = made?;
-    let made = for_truth_values(alloc, rules, &all);
-    drop(all);
-    made
-}
+const NOT_TRUTH: Written<'static> = Applied(&NOT, &TRUTH);
 
-// `(T ==> F) <=> F`, from `T`.
-fn truth_implies_falsity(alloc: Global, rules: &mut Rules, holds: &Thm) -> Result<Thm, AllocError>
-    requires { holds.now ≡ theorem_of truth }
-    ensures { IfOk result (λ th. th ≡ theorem_of (equivalence (implication truth falsity) falsity)) }
-{
-    let own = assumed_falsity(alloc)?;
-    let made = truth_implies(alloc, rules, holds, &own);
-    drop(own);
-    made
-}
+const NOT_FALSITY: Written<'static> = Applied(&NOT, &FALSITY);
 
-// `~T <=> F`.
-fn not_truth(alloc: Global, rules: &mut Rules) -> Result<Thm, AllocError>
-    ensures { IfOk result (λ th. th ≡ theorem_of (equivalence (negation truth) falsity)) }
-{
-    let holds = rules.truth()?;
-    let implied = truth_implies_falsity(alloc, rules, &holds)?;
-    let made = denial(alloc, &holds, &implied);
-    drop(implied);
-    drop(holds);
-    made
-}
+const NOT_TRUTH_IS_FALSITY: Written<'static> = Equation(Sort::Truth, &NOT_TRUTH, &FALSITY);
 
-// `~F <=> T`.
-fn not_falsity(alloc: Global, rules: &mut Rules) -> Result<Thm, AllocError>
-    ensures { IfOk result (λ th. th ≡ theorem_of (equivalence (negation falsity) truth)) }
-{
-    let own = assumed_falsity(alloc)?;
-    let implied = always(alloc, rules, &own, &own)?;
-    let made = denial(alloc, &own, &implied);
-    drop(implied);
-    drop(own);
-    made
-}
+const NOT_FALSITY_IS_TRUTH: Written<'static> = Equation(Sort::Truth, &NOT_FALSITY, &TRUTH);
+
+const NOT_CLAUSES_WEAK: Written<'static> = Connective(
+    "/\\",
+    &NOT_TRUTH_IS_FALSITY,
+    &NOT_FALSITY_IS_TRUTH,
+);
 
 /// NOT_CLAUSES_WEAK: the rewrites of `~T` and `~F`.
-pub fn not_clauses_weak(alloc: Global, rules: &mut Rules) -> Result<Thm, AllocError>
+#[tactic(auto, using(crate::proofs::Clauses::not_clauses_derived))]
+pub fn not_clauses_weak(alloc: Global) -> Result<Thm, AllocError>
     ensures { IfOk result (λ th. th ≡ stated not_clauses_weak) }
 {
-    let first = not_truth(alloc, rules)?;
-    let second = not_falsity(alloc, rules)?;
-    let made = both(alloc, rules, &first, &second);
-    drop(second);
-    drop(first);
-    made
+    theorem(alloc, &NOT_CLAUSES_WEAK)
 }
+
+const T: Written<'static> = Variable("t", Sort::Truth);
+
+const NOT_T: Written<'static> = Applied(&NOT, &T);
+
+const TRUTH_EQ_T: Written<'static> = Equation(Sort::Truth, &TRUTH, &T);
+
+const TRUTH_EQ_T_IS_T: Written<'static> = Equation(Sort::Truth, &TRUTH_EQ_T, &T);
+
+const T_EQ_TRUTH: Written<'static> = Equation(Sort::Truth, &T, &TRUTH);
+
+const T_EQ_TRUTH_IS_T: Written<'static> = Equation(Sort::Truth, &T_EQ_TRUTH, &T);
+
+const FALSITY_EQ_T: Written<'static> = Equation(Sort::Truth, &FALSITY, &T);
+
+const FALSITY_EQ_T_IS_NOT_T: Written<'static> = Equation(Sort::Truth, &FALSITY_EQ_T, &NOT_T);
+
+const T_EQ_FALSITY: Written<'static> = Equation(Sort::Truth, &T, &FALSITY);
+
+const T_EQ_FALSITY_IS_NOT_T: Written<'static> = Equation(Sort::Truth, &T_EQ_FALSITY, &NOT_T);
+
+const EQ_FROM_THIRD: Written<'static> = Connective(
+    "/\\",
+    &FALSITY_EQ_T_IS_NOT_T,
+    &T_EQ_FALSITY_IS_NOT_T,
+);
+
+const EQ_FROM_SECOND: Written<'static> = Connective("/\\", &T_EQ_TRUTH_IS_T, &EQ_FROM_THIRD);
+
+const EQ_REWRITES: Written<'static> = Connective("/\\", &TRUTH_EQ_T_IS_T, &EQ_FROM_SECOND);
+
+const EQ_CLAUSES: Written<'static> = Quantified("!", "t", Sort::Truth, &EQ_REWRITES);
+
+/// EQ_CLAUSES: the rewrites of `<=>`.
+pub fn eq_clauses(alloc: Global) -> Result<Thm, AllocError>
+    ensures { IfOk result (λ th. th ≡ stated eq_clauses) }
+{
+    theorem(alloc, &EQ_CLAUSES)
+}
+
+const TRUTH_AND_T: Written<'static> = Connective("/\\", &TRUTH, &T);
+
+const TRUTH_AND_T_IS_T: Written<'static> = Equation(Sort::Truth, &TRUTH_AND_T, &T);
+
+const T_AND_TRUTH: Written<'static> = Connective("/\\", &T, &TRUTH);
+
+const T_AND_TRUTH_IS_T: Written<'static> = Equation(Sort::Truth, &T_AND_TRUTH, &T);
+
+const FALSITY_AND_T: Written<'static> = Connective("/\\", &FALSITY, &T);
+
+const FALSITY_AND_T_IS_FALSITY: Written<'static> = Equation(Sort::Truth, &FALSITY_AND_T, &FALSITY);
+
+const T_AND_FALSITY: Written<'static> = Connective("/\\", &T, &FALSITY);
+
+const T_AND_FALSITY_IS_FALSITY: Written<'static> = Equation(Sort::Truth, &T_AND_FALSITY, &FALSITY);
+
+const T_AND_T: Written<'static> = Connective("/\\", &T, &T);
+
+const T_AND_T_IS_T: Written<'static> = Equation(Sort::Truth, &T_AND_T, &T);
+
+const AND_FROM_FOURTH: Written<'static> = Connective(
+    "/\\",
+    &T_AND_FALSITY_IS_FALSITY,
+    &T_AND_T_IS_T,
+);
+
+const AND_FROM_THIRD: Written<'static> = Connective(
+    "/\\",
+    &FALSITY_AND_T_IS_FALSITY,
+    &AND_FROM_FOURTH,
+);
+
+const AND_FROM_SECOND: Written<'static> = Connective("/\\", &T_AND_TRUTH_IS_T, &AND_FROM_THIRD);
+
+const AND_REWRITES: Written<'static> = Connective("/\\", &TRUTH_AND_T_IS_T, &AND_FROM_SECOND);
+
+const AND_CLAUSES: Written<'static> = Quantified("!", "t", Sort::Truth, &AND_REWRITES);
 
 /// AND_CLAUSES: the rewrites of `/\`.
-pub fn and_clauses(alloc: Global, rules: &mut Rules) -> Result<Thm, AllocError>
+pub fn and_clauses(alloc: Global) -> Result<Thm, AllocError>
     ensures { IfOk result (λ th. th ≡ stated and_clauses) }
 {
-    let own = assumed_truth_value(alloc)?;
-    let made = conj_rewrites(alloc, rules, &own);
-    drop(own);
-    let all = made?;
-    let made = for_truth_values(alloc, rules, &all);
-    drop(all);
-    made
+    theorem(alloc, &AND_CLAUSES)
 }
+
+const TRUTH_OR_T: Written<'static> = Connective("\\/", &TRUTH, &T);
+
+const TRUTH_OR_T_IS_TRUTH: Written<'static> = Equation(Sort::Truth, &TRUTH_OR_T, &TRUTH);
+
+const T_OR_TRUTH: Written<'static> = Connective("\\/", &T, &TRUTH);
+
+const T_OR_TRUTH_IS_TRUTH: Written<'static> = Equation(Sort::Truth, &T_OR_TRUTH, &TRUTH);
+
+const FALSITY_OR_T: Written<'static> = Connective("\\/", &FALSITY, &T);
+
+const FALSITY_OR_T_IS_T: Written<'static> = Equation(Sort::Truth, &FALSITY_OR_T, &T);
+
+const T_OR_FALSITY: Written<'static> = Connective("\\/", &T, &FALSITY);
+
+const T_OR_FALSITY_IS_T: Written<'static> = Equation(Sort::Truth, &T_OR_FALSITY, &T);
+
+const T_OR_T: Written<'static> = Connective("\\/", &T, &T);
+
+const T_OR_T_IS_T: Written<'static> = Equation(Sort::Truth, &T_OR_T, &T);
+
+const OR_FROM_FOURTH: Written<'static> = Connective("/\\", &T_OR_FALSITY_IS_T, &T_OR_T_IS_T);
+
+const OR_FROM_THIRD: Written<'static> = Connective("/\\", &FALSITY_OR_T_IS_T, &OR_FROM_FOURTH);
+
+const OR_FROM_SECOND: Written<'static> = Connective("/\\", &T_OR_TRUTH_IS_TRUTH, &OR_FROM_THIRD);
+
+const OR_REWRITES: Written<'static> = Connective("/\\", &TRUTH_OR_T_IS_TRUTH, &OR_FROM_SECOND);
+
+const OR_CLAUSES: Written<'static> = Quantified("!", "t", Sort::Truth, &OR_REWRITES);
 
 /// OR_CLAUSES: the rewrites of `\/`.
-pub fn or_clauses(alloc: Global, rules: &mut Rules) -> Result<Thm, AllocError>
+pub fn or_clauses(alloc: Global) -> Result<Thm, AllocError>
     ensures { IfOk result (λ th. th ≡ stated or_clauses) }
 {
-    let own = assumed_truth_value(alloc)?;
-    let made = disj_rewrites(alloc, rules, &own);
-    drop(own);
-    let all = made?;
-    let made = for_truth_values(alloc, rules, &all);
-    drop(all);
-    made
+    theorem(alloc, &OR_CLAUSES)
 }
 
+const TRUTH_IMP_T: Written<'static> = Connective("==>", &TRUTH, &T);
+
+const TRUTH_IMP_T_IS_T: Written<'static> = Equation(Sort::Truth, &TRUTH_IMP_T, &T);
+
+const T_IMP_TRUTH: Written<'static> = Connective("==>", &T, &TRUTH);
+
+const T_IMP_TRUTH_IS_TRUTH: Written<'static> = Equation(Sort::Truth, &T_IMP_TRUTH, &TRUTH);
+
+const FALSITY_IMP_T: Written<'static> = Connective("==>", &FALSITY, &T);
+
+const FALSITY_IMP_T_IS_TRUTH: Written<'static> = Equation(Sort::Truth, &FALSITY_IMP_T, &TRUTH);
+
+const T_IMP_T: Written<'static> = Connective("==>", &T, &T);
+
+const T_IMP_T_IS_TRUTH: Written<'static> = Equation(Sort::Truth, &T_IMP_T, &TRUTH);
+
+const T_IMP_FALSITY: Written<'static> = Connective("==>", &T, &FALSITY);
+
+const T_IMP_FALSITY_IS_NOT_T: Written<'static> = Equation(Sort::Truth, &T_IMP_FALSITY, &NOT_T);
+
+const IMP_FROM_FOURTH: Written<'static> = Connective(
+    "/\\",
+    &T_IMP_T_IS_TRUTH,
+    &T_IMP_FALSITY_IS_NOT_T,
+);
+
+const IMP_FROM_THIRD: Written<'static> = Connective(
+    "/\\",
+    &FALSITY_IMP_T_IS_TRUTH,
+    &IMP_FROM_FOURTH,
+);
+
+const IMP_FROM_SECOND: Written<'static> = Connective("/\\", &T_IMP_TRUTH_IS_TRUTH, &IMP_FROM_THIRD);
+
+const IMP_REWRITES: Written<'static> = Connective("/\\", &TRUTH_IMP_T_IS_T, &IMP_FROM_SECOND);
+
+const IMP_CLAUSES: Written<'static> = Quantified("!", "t", Sort::Truth, &IMP_REWRITES);
+
 /// IMP_CLAUSES: the rewrites of `==>`.
-pub fn imp_clauses(alloc: Global, rules: &mut Rules) -> Result<Thm, AllocError>
+pub fn imp_clauses(alloc: Global) -> Result<Thm, AllocError>
     ensures { IfOk result (λ th. th ≡ stated imp_clauses) }
 {
-    let own = assumed_truth_value(alloc)?;
-    let made = imp_rewrites(alloc, rules, &own);
-    drop(own);
-    let all = made?;
-    let made = for_truth_values(alloc, rules, &all);
-    drop(all);
-    made
+    theorem(alloc, &IMP_CLAUSES)
 }

@@ -10,7 +10,7 @@ ghost use Rattle.hol_kernel.specs.Typing.{HasType};
 ghost use Rattle.hol_derived.specs.Applied.{defining, unfolded};
 ghost use Rattle.hol_definition.specs.ForAll.{for_all};
 
-use hol_derived::applied::generalize;
+use hol_derived::applied::for_each;
 use hol_derived::unfold;
 use hol_formulas::dest_eq;
 use hol_kernel::Thm;
@@ -42,7 +42,7 @@ pub fn for_all(alloc: Global, a: Thm, variables: usize) -> Result<Thm, AllocErro
             let own = fresh(alloc, v, sides.left, sides.right)?;
             let applied = at_variable(alloc, &a, domain, range, &own)?;
             let inner = for_all(alloc, applied, variables - 1)?;
-            generalize(alloc, &own, &inner)
+            for_each(alloc, &own, &inner)
         }
     }
 }

@@ -5,11 +5,10 @@ use Rattle.std.proofs.Common.{ap, sym, ◌∙◌, subst}
 use Rattle.hol_terms.specs.Nameless.{Nameless}
 use Rattle.hol_terms.specs.Alpha.{strip}
 use Rattle.hol_formulas.specs.Equation.{bool_type}
-use Rattle.hol_formulas.specs.Formula.{truth, falsity, negation, conjunction, disjunction, implication, equivalence}
+use Rattle.hol_formulas.specs.Formula.{truth, falsity, negation, conjunction, implication, equivalence}
 use Rattle.hol_formulas.specs.Prelude.{boolean}
 use Rattle.hol_kernel.specs.Items.{Items}
 use Rattle.hol_kernel.specs.Sequent.{Hyps, no_hyps, only_hyp, Sequent, sequent_of}
-use Rattle.hol_kernel.specs.Theorem.{IsTheorem, theorem_on}
 use Rattle.hol_kernel.specs.Typing.{HasType, is_type_at}
 use Rattle.hol_kernel.specs.Derivation.{Derives, by_eq_mp, by_deduct_antisym, by_inst}
 use Rattle.hol_kernel.proofs.Cuts.{cut_derived, one_removed}
@@ -18,8 +17,8 @@ use Rattle.hol_kernel.proofs.SortedSets.{union_none_left}
 use Rattle.hol_kernel.proofs.Sound.{Derived}
 use Rattle.hol_equal.proofs.HypSets.{none_right}
 use Rattle.hol_derived.specs.Lemmas.{lemma_at, general}
-use Rattle.hol_derived.specs.declared.lemma.Lemma.{Lemma}
-use Rattle.hol_derived.specs.declared.lemma.Lemma.TheVariants.{EqtIntro, Both, Conj, Conjunct1, Conjunct2, Mp, Disch, Disj1, Disj2, Contr, NotIntro, EqfIntro}
+use Rattle.hol_derived.specs.Which.{Lemma, EqtIntro, Both, Conj, Conjunct1, Conjunct2, Mp, Disch, NotIntro}
+use Rattle.hol_derived.proofs.OfConnectives.{eqt_intro_lemma, both_lemma, conj_lemma, conjunct1_lemma, conjunct2_lemma, mp_lemma, disch_lemma, not_intro_lemma}
 use Rattle.hol_derived.proofs.Connected.{typed_whole}
 use Rattle.hol_derived.proofs.HypLaws.{joined}
 use Rattle.hol_derived.proofs.Instances.{instance_is}
@@ -39,56 +38,44 @@ module _ (items : Items) where
       subst (λ (hs : Hyps). Derives items hs r) (union_none_left hyps_total hyps_same b.hyps) (by_eq_mp no_hyps b.hyps bool_type l r b.concl rule d fits)
 
   -- EQ_MP of the equivalence and a theorem, whose hypotheses come first
-  from_both : (ks : Hyps) (l r : Nameless) (a : Sequent) → Derives items ks (equivalence l r) → strip l ≡ strip a.concl → Derived items a → Derives items (set.union a.hyps ks) r
+  pub from_both : (ks : Hyps) (l r : Nameless) (a : Sequent) → Derives items ks (equivalence l r) → strip l ≡ strip a.concl → Derived items a → Derives items (set.union a.hyps ks) r
   from_both ks l r a rule fits d =
       subst (λ (hs : Hyps). Derives items hs r) (swapped ks a.hyps) (by_eq_mp ks a.hyps bool_type l r a.concl rule d fits)
 
   -- a general theorem has a derivation at each pair of formulas
   module _ (p q : Nameless) (first : HasType items p bool_type) (second : HasType items q bool_type) where
-    at_formulas : (which : Lemma) → IsTheorem (theorem_on items (general which)) → Derived items (lemma_at which p q)
-    at_formulas which known =
+    pub at_formulas : (which : Lemma) → Derived items (general which) → Derived items (lemma_at which p q)
+    at_formulas which d =
         subst (Derived items) (instance_is p q (typed_whole items p bool_type first) (typed_whole items q bool_type second) which)
         (by_inst (general which).hyps (general which).concl ((p, boolean (codes "p")) ∷ (q, boolean (codes "q")) ∷ [])
-        (λ i. is_type_at (first i) bool_type && (is_type_at (second i) bool_type && true)) known.derives)
+        (λ i. is_type_at (first i) bool_type && (is_type_at (second i) bool_type && true)) d)
 
-    pub conj_derived : (a b : Sequent) → IsTheorem (theorem_on items (general Conj)) → strip p ≡ strip a.concl → strip q ≡ strip b.concl → Derived items a → Derived items b → Derives items (set.union a.hyps b.hyps) (conjunction p q)
-    conj_derived a b known left right d e = from_both b.hyps p (conjunction p q) a (from_one q (equivalence p (conjunction p q)) b (at_formulas Conj known) right e) left d
+    pub conj_derived : (a b : Sequent) → strip p ≡ strip a.concl → strip q ≡ strip b.concl → Derived items a → Derived items b → Derives items (set.union a.hyps b.hyps) (conjunction p q)
+    conj_derived a b left right d e = from_both b.hyps p (conjunction p q) a (from_one q (equivalence p (conjunction p q)) b (at_formulas Conj (conj_lemma items)) right e) left d
 
-    pub conjunct1_derived : (a : Sequent) → IsTheorem (theorem_on items (general Conjunct1)) → a.concl ≡ conjunction p q → Derived items a → Derives items a.hyps p
-    conjunct1_derived a known is d = from_one (conjunction p q) p a (at_formulas Conjunct1 known) (ap strip (sym is)) d
+    pub conjunct1_derived : (a : Sequent) → a.concl ≡ conjunction p q → Derived items a → Derives items a.hyps p
+    conjunct1_derived a is d = from_one (conjunction p q) p a (at_formulas Conjunct1 (conjunct1_lemma items)) (ap strip (sym is)) d
 
-    pub conjunct2_derived : (a : Sequent) → IsTheorem (theorem_on items (general Conjunct2)) → a.concl ≡ conjunction p q → Derived items a → Derives items a.hyps q
-    conjunct2_derived a known is d = from_one (conjunction p q) q a (at_formulas Conjunct2 known) (ap strip (sym is)) d
+    pub conjunct2_derived : (a : Sequent) → a.concl ≡ conjunction p q → Derived items a → Derives items a.hyps q
+    conjunct2_derived a is d = from_one (conjunction p q) q a (at_formulas Conjunct2 (conjunct2_lemma items)) (ap strip (sym is)) d
 
-    pub mp_derived : (a b : Sequent) → IsTheorem (theorem_on items (general Mp)) → strip (implication p q) ≡ strip a.concl → strip p ≡ strip b.concl → Derived items a → Derived items b → Derives items (set.union a.hyps b.hyps) q
-    mp_derived a b known is fits d e = from_both b.hyps (implication p q) q a (from_one p (equivalence (implication p q) q) b (at_formulas Mp known) fits e) is d
+    pub mp_derived : (a b : Sequent) → strip (implication p q) ≡ strip a.concl → strip p ≡ strip b.concl → Derived items a → Derived items b → Derives items (set.union a.hyps b.hyps) q
+    mp_derived a b is fits d e = from_both b.hyps (implication p q) q a (from_one p (equivalence (implication p q) q) b (at_formulas Mp (mp_lemma items)) fits e) is d
 
-    pub undisch_derived : (a : Sequent) → IsTheorem (theorem_on items (general Mp)) → a.concl ≡ implication p q → Derived items a → Derives items (set.union a.hyps (only_hyp p)) q
-    undisch_derived a known is d = from_both (only_hyp p) (implication p q) q a (at_formulas Mp known) (ap strip (sym is)) d
+    pub undisch_derived : (a : Sequent) → a.concl ≡ implication p q → Derived items a → Derives items (set.union a.hyps (only_hyp p)) q
+    undisch_derived a is d = from_both (only_hyp p) (implication p q) q a (at_formulas Mp (mp_lemma items)) (ap strip (sym is)) d
 
-    pub disch_derived : (hs : Hyps) → IsTheorem (theorem_on items (general Both)) → IsTheorem (theorem_on items (general Conjunct1)) → IsTheorem (theorem_on items (general Disch)) → Derives items hs q → Derives items (set.remove hs (strip p)) (implication p q)
-    disch_derived hs both first last d =
+    pub disch_derived : (hs : Hyps) → Derives items hs q → Derives items (set.remove hs (strip p)) (implication p q)
+    disch_derived hs d =
         let two = conjunction p q in
         let under : Hyps = set.union hs (set.remove (set.insert (only_hyp q) (strip p)) (strip q)) in
-        let with : Derives items under two = cut_derived items (sequent_of hs q) (lemma_at Both p q) d (at_formulas Both both) in
+        let with : Derives items under two = cut_derived items (sequent_of hs q) (lemma_at Both p q) d (at_formulas Both (both_lemma items)) in
         let equal : Derives items (set.remove hs (strip p)) (equivalence two p) =
-        subst (λ (ks : Hyps). Derives items ks (equivalence two p)) (joined p q two hs) (by_deduct_antisym under (only_hyp two) two p with (at_formulas Conjunct1 first)) in
-        from_equivalence (equivalence two p) (implication p q) (sequent_of (set.remove hs (strip p)) (equivalence two p)) (at_formulas Disch last) refl equal
+        subst (λ (ks : Hyps). Derives items ks (equivalence two p)) (joined p q two hs) (by_deduct_antisym under (only_hyp two) two p with (at_formulas Conjunct1 (conjunct1_lemma items))) in
+        from_equivalence (equivalence two p) (implication p q) (sequent_of (set.remove hs (strip p)) (equivalence two p)) (at_formulas Disch (disch_lemma items)) refl equal
 
-    pub not_intro_derived : (a : Sequent) → IsTheorem (theorem_on items (general NotIntro)) → a.concl ≡ implication p falsity → Derived items a → Derives items a.hyps (negation p)
-    not_intro_derived a known is d = from_equivalence (implication p falsity) (negation p) a (at_formulas NotIntro known) (ap strip (sym is)) d
+    pub not_intro_derived : (a : Sequent) → a.concl ≡ implication p falsity → Derived items a → Derives items a.hyps (negation p)
+    not_intro_derived a is d = from_equivalence (implication p falsity) (negation p) a (at_formulas NotIntro (not_intro_lemma items)) (ap strip (sym is)) d
 
-    pub eqf_intro_derived : (a : Sequent) → IsTheorem (theorem_on items (general EqfIntro)) → a.concl ≡ negation p → Derived items a → Derives items a.hyps (equivalence p falsity)
-    eqf_intro_derived a known is d = from_one (negation p) (equivalence p falsity) a (at_formulas EqfIntro known) (ap strip (sym is)) d
-
-    pub disj1_derived : (a : Sequent) → IsTheorem (theorem_on items (general Disj1)) → a.concl ≡ p → Derived items a → Derives items a.hyps (disjunction p q)
-    disj1_derived a known is d = from_one p (disjunction p q) a (at_formulas Disj1 known) (ap strip (sym is)) d
-
-    pub disj2_derived : (a : Sequent) → IsTheorem (theorem_on items (general Disj2)) → a.concl ≡ q → Derived items a → Derives items a.hyps (disjunction p q)
-    disj2_derived a known is d = from_one q (disjunction p q) a (at_formulas Disj2 known) (ap strip (sym is)) d
-
-    pub contr_derived : (a : Sequent) → IsTheorem (theorem_on items (general Contr)) → a.concl ≡ falsity → Derived items a → Derives items a.hyps p
-    contr_derived a known is d = from_one falsity p a (at_formulas Contr known) (ap strip (sym is)) d
-
-    pub eqt_intro_derived : (a : Sequent) → IsTheorem (theorem_on items (general EqtIntro)) → a.concl ≡ p → Derived items a → Derives items a.hyps (equivalence p truth)
-    eqt_intro_derived a known is d = from_equivalence p (equivalence p truth) a (at_formulas EqtIntro known) (ap strip (sym is)) d
+    pub eqt_intro_derived : (a : Sequent) → a.concl ≡ p → Derived items a → Derives items a.hyps (equivalence p truth)
+    eqt_intro_derived a is d = from_equivalence p (equivalence p truth) a (at_formulas EqtIntro (eqt_intro_lemma items)) (ap strip (sym is)) d

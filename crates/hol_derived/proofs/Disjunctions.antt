@@ -1,22 +1,17 @@
 -- Hypotheses that the derivations of the rules of falsity, disjunction and existence leave, and the body of the definition of \/ at closed terms.
-use Rattle.std.specs.Prelude.{◌≡◌, ℕ, true, false, not, ◌&&◌, ◌||◌, Bool, List, [], ◌∷◌, codes, Some, None, refl}
+use Rattle.std.specs.Prelude.{◌≡◌, ℕ, true, false, not, ◌&&◌, ◌||◌, Bool, List, [], ◌∷◌, Some, None, refl}
 use Rattle.std.specs.Cmp.{Equal-is}
 use Rattle.std.specs.FinSet as set
 use Rattle.std.proofs.Common.{ap, sym, ◌∙◌}
 use mathlib.Core.Bool.{true≢false}
 use Rattle.hol_types.specs.Tree.{TypeTree}
 use Rattle.hol_types.specs.Fun.{fun_type}
-use Rattle.hol_terms.specs.Named.{Named, var}
-use Rattle.hol_terms.specs.Nameless.{Nameless, nameless, bound, fixed, app, lam, free_occurrences}
+use Rattle.hol_terms.specs.Named.{Named}
+use Rattle.hol_terms.specs.Nameless.{Nameless, nameless, fixed, app, free_occurrences}
 use Rattle.hol_terms.specs.Alpha.{strip}
 use Rattle.hol_terms.specs.Scoped.{binds}
 use Rattle.hol_subst.specs.AlphaOrder.{nameless_cmp}
-use Rattle.hol_subst.specs.Closing.{open_with}
 use Rattle.hol_subst.specs.Variant.{is_free_in}
-use Rattle.hol_subst.proofs.Closing.{IsClosed, shift_whole}
-use Rattle.hol_formulas.specs.Equation.{bool_type}
-use Rattle.hol_formulas.specs.Formula.{implication, universal}
-use Rattle.hol_formulas.specs.Prelude.{boolean}
 use Rattle.hol_kernel.specs.Items.{Items}
 use Rattle.hol_kernel.specs.Sequent.{Hyps, no_hyps, only_hyp}
 use Rattle.hol_kernel.specs.Typing.{HasType}
@@ -24,10 +19,6 @@ use Rattle.hol_kernel.proofs.HypothesisLists.{hyps_same, free_in_hyps}
 use Rattle.hol_kernel.proofs.Stands.{some_is}
 use Rattle.hol_kernel.proofs.Variables.{known_typed}
 use Rattle.hol_equal.proofs.Typings.{parts_typed}
-use Rattle.hol_derived.specs.Unfolded.{either, either_for_all, letter, side_name, reached_from}
-use Rattle.hol_derived.specs.declared.disjunction.Side.{Side}
-use Rattle.hol_derived.specs.declared.disjunction.Side.TheVariants.{Left, Right}
-use Rattle.hol_derived.proofs.Bodies.{open_whole}
 pub use Rattle.hol_kernel.proofs.Cuts.{one_removed}
 use Rattle.hol_kernel.proofs.Cuts.{same_hyps}
 use Rattle.hol_derived.proofs.HypLaws.{is, has, in_union, in_rest, in_one}
@@ -74,17 +65,6 @@ denied hs d p f =
 
 -- ---- the definition of \/
 
--- \q r. (u ==> r) ==> (q ==> r) ==> r
-abbrev pub or_half : Nameless → Nameless
-or_half u = lam (codes "q") bool_type (universal (record { base = codes "r"; domain = bool_type; body = either u (bound 1) (bound 0) }))
-
-module _ (p q : Nameless) (c : IsClosed 0 p) (d : IsClosed 0 q) where
-  pub first_opened : open_with p 0 (or_half (bound 2)) ≡ or_half p
-  first_opened = ap or_half (shift_whole 2 0 p c)
-
-  pub second_opened : open_with q 0 (universal (record { base = codes "r"; domain = bool_type; body = either p (bound 1) (bound 0) })) ≡ universal (either_for_all p q)
-  second_opened = λ i. universal (either_for_all (open_whole q 1 p c i) (shift_whole 1 0 q d i))
-
 -- ---- hypotheses of the derivation of a disjunction
 
 -- a term that is a is not b, where a is not b
@@ -112,25 +92,21 @@ two_removed i x f s q =
     ∙ ap (λ b. not (is q (strip f)) && b)
     (in_rest (set.union (only_hyp i) (only_hyp x)) (strip s) q ∙ ap (λ b. not (is q (strip s)) && b) (in_union (only_hyp i) (only_hyp x) q ∙ (λ j. in_one i q j || in_one x q j)))
 
--- p ==> r, q ==> r
-abbrev implies_r : List ℕ → Nameless
-implies_r name = implication (letter name) (letter (codes "r"))
+-- {i, x} without f and s, where x is neither, and i is one of them
+module _ (x f s : Nameless) (first : is (strip x) (strip f) ≡ false) (second : is (strip x) (strip s) ≡ false) where
+  pub first_side : set.remove (set.remove (set.union (only_hyp f) (only_hyp x)) (strip s)) (strip f) ≡ only_hyp x
+  first_side =
+      same_hyps _ _
+      (λ q.
+      two_removed f x f s q ∙ left_ways (is q (strip f)) (is q (strip s)) (is q (strip x)) (apart (strip x) (strip f) q first) (apart (strip x) (strip s) q second)
+      ∙ sym (in_one x q))
 
-pub side_left : (side : Side) → set.remove (set.remove (reached_from (side_name side)).hyps (strip (implication (letter (codes "q")) (letter (codes "r"))))) (strip (implication (letter (codes "p")) (letter (codes "r")))) ≡ only_hyp (letter (side_name side))
-side_left Left =
-    same_hyps _ _
-    (λ q.
-    two_removed (implies_r (codes "p")) (letter (codes "p")) (implies_r (codes "p")) (implies_r (codes "q")) q
-    ∙ left_ways (is q (strip (implies_r (codes "p")))) (is q (strip (implies_r (codes "q")))) (is q (letter (codes "p"))) (apart (letter (codes "p")) (strip (implies_r (codes "p"))) q refl)
-    (apart (letter (codes "p")) (strip (implies_r (codes "q"))) q refl)
-    ∙ sym (in_one (letter (codes "p")) q))
-side_left Right =
-    same_hyps _ _
-    (λ q.
-    two_removed (implies_r (codes "q")) (letter (codes "q")) (implies_r (codes "p")) (implies_r (codes "q")) q
-    ∙ right_ways (is q (strip (implies_r (codes "p")))) (is q (strip (implies_r (codes "q")))) (is q (letter (codes "q"))) (apart (letter (codes "q")) (strip (implies_r (codes "p"))) q refl)
-    (apart (letter (codes "q")) (strip (implies_r (codes "q"))) q refl)
-    ∙ sym (in_one (letter (codes "q")) q))
+  pub second_side : set.remove (set.remove (set.union (only_hyp s) (only_hyp x)) (strip s)) (strip f) ≡ only_hyp x
+  second_side =
+      same_hyps _ _
+      (λ q.
+      two_removed s x f s q ∙ right_ways (is q (strip f)) (is q (strip s)) (is q (strip x)) (apart (strip x) (strip f) q first) (apart (strip x) (strip s) q second)
+      ∙ sym (in_one x q))
 
 -- ---- variables that are free in hypotheses
 
@@ -139,7 +115,3 @@ free_in_none v = free_in_hyps no_hyps [] v refl
 
 pub free_in_one : (t : Named) (v : List ℕ × TypeTree) → is_free_in (set.items (only_hyp (nameless [] t))) v ≡ (binds (free_occurrences (nameless [] t)) v || false)
 free_in_one t v = free_in_hyps (only_hyp (nameless [] t)) (t ∷ []) v refl
-
-pub side_absent : (side : Side) → is_free_in (set.items (only_hyp (letter (side_name side)))) (boolean (codes "r")) ≡ false
-side_absent Left = free_in_one (var (boolean (codes "p"))) (boolean (codes "r"))
-side_absent Right = free_in_one (var (boolean (codes "q"))) (boolean (codes "r"))

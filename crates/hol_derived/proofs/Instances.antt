@@ -1,12 +1,11 @@
 -- Instances of the general theorems.
-use Rattle.std.specs.Prelude.{◌≡◌, Result, Ok, Err, IfOk, true, cond, ◌&&◌, [], ◌∷◌, codes, Option, Some, None, unwrap_or, IsSome, is_some, Bool, false, refl}
+use Rattle.std.specs.Prelude.{◌≡◌, Result, Ok, Err, IfOk, true, cond, [], ◌∷◌, codes, Option, Some, None, unwrap_or, IsSome, is_some, Bool, false, refl}
 use Rattle.std.specs.FinSet as set
 use Rattle.std.proofs.Common.{ap, sym, ◌∙◌}
 use mathlib.Core.Bool.{true≢false}
 use Rattle.hol_types.specs.Tree.{TypeTree}
 use Rattle.hol_types.specs.Fun.{fun_type}
-use Rattle.hol_terms.specs.Named.{Named, var}
-use Rattle.hol_terms.specs.Nameless.{Nameless, free, fixed, app, nameless}
+use Rattle.hol_terms.specs.Nameless.{Nameless, free, fixed, app}
 use Rattle.hol_terms.specs.Alpha.{strip}
 use Rattle.hol_subst.specs.Shift.{shift}
 use Rattle.hol_subst.specs.Substitution.{term_lookup, term_subst, types_inst}
@@ -16,24 +15,22 @@ use Rattle.hol_formulas.specs.Equation.{bool_type, equation}
 use Rattle.hol_formulas.specs.Formula.{quantifier_type, truth, falsity, negation, conjunction, disjunction, implication, equivalence, universal}
 use Rattle.hol_formulas.specs.Constants.{var_a}
 use Rattle.hol_formulas.specs.Prelude.{boolean}
-use Rattle.hol_formulas.proofs.EquationTypes.{type_eq_itself}
 use Rattle.hol_kernel.specs.Items.{Items}
 use Rattle.hol_kernel.specs.Sequent.{Hyps, no_hyps, only_hyp, hyps_image, Sequent, sequent_of}
-use Rattle.hol_kernel.specs.Typing.{is_type_at, type_over, HasType}
+use Rattle.hol_kernel.specs.Typing.{type_over, HasType}
 use Rattle.hol_kernel.specs.Theorem.{Theorem, theorem_on, over}
-use Rattle.hol_kernel.specs.Rules.{sequent_image, inst_of}
+use Rattle.hol_kernel.specs.Rules.{sequent_image}
 use Rattle.hol_kernel.proofs.HypothesisLists.{hyps_total, hyps_same}
 use Rattle.hol_equal.proofs.Beta.{image_none}
 use Rattle.hol_equal.proofs.HypSets.{none_right}
 use Rattle.hol_derived.specs.Applied.{constantly_true}
 use Rattle.hol_derived.specs.Unfolded.{letter, predicate, of_witness, exists_in, implied_by_all, either}
 use Rattle.hol_derived.specs.Lemmas.{hypothesis, conclusion, lemma_at, general, put, put_predicate, put_at}
-use Rattle.hol_derived.specs.declared.lemma.Lemma.{Lemma}
-use Rattle.hol_derived.specs.declared.lemma.Lemma.TheVariants.{EqtIntro, Both, Conj, Conjunct1, Conjunct2, Mp, Disch, Disj1, Disj2, Contr, NotIntro, EqfIntro, Gen, DisjCases, Spec, Exists, Choose}
+use Rattle.hol_derived.specs.Which.{Lemma, EqtIntro, Both, Conj, Conjunct1, Conjunct2, Mp, Disch, Disj1, Disj2, Contr, NotIntro, EqfIntro, Gen, DisjCases, Spec, Exists, Choose}
 use Rattle.hol_derived.proofs.Disjunctions.{one_removed}
 
 -- what a map makes of one hypothesis
-image_one : (f : Nameless → Nameless) (h : Nameless) → hyps_image f (only_hyp h) ≡ set.insert no_hyps (strip (f (strip h)))
+pub image_one : (f : Nameless → Nameless) (h : Nameless) → hyps_image f (only_hyp h) ≡ set.insert no_hyps (strip (f (strip h)))
 image_one f h = map_of_set hyps_total hyps_same (λ k. strip (f k)) (strip h ∷ [])
 
 -- of two
@@ -139,11 +136,6 @@ module _ (p q r : Nameless) (c : IsClosed 0 p) (d : IsClosed 0 q) (e : IsClosed 
 -- f for P, of properties of what has the type a
 abbrev pub with_property : TypeTree → Nameless → Sequent → Sequent
 with_property a f s = sequent_image (term_subst ((f, (codes "P", fun_type a bool_type)) ∷ []) 0) s
-
-pub property_fits : (basis : Items) (a : TypeTree) (f : Named) (s : Sequent) → HasType basis (nameless [] f) (fun_type a bool_type) → inst_of basis ((f, var (codes "P", fun_type a bool_type)) ∷ []) s ≡ Some (with_property a (nameless [] f) s)
-property_fits basis a f s typed =
-    (λ i. cond (is_type_at (typed i) (fun_type a bool_type) && true) (Some (with_property a (nameless [] f) s)) None)
-    ∙ ap (λ k. cond (k && true) (Some (with_property a (nameless [] f) s)) None) (type_eq_itself (fun_type a bool_type))
 
 module _ (a : TypeTree) (f : Nameless) (c : IsClosed 0 f) where
   at : Nameless → Nameless

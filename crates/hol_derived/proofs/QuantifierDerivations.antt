@@ -13,8 +13,7 @@ use Rattle.hol_subst.specs.Substitution.{types_inst}
 use Rattle.hol_subst.specs.Variant.{is_free_in}
 use Rattle.hol_subst.proofs.Closing.{IsClosed}
 use Rattle.hol_formulas.specs.Equation.{bool_type, equation}
-use Rattle.hol_formulas.specs.Formula.{quantifier_type, truth, disjunction, implication, equivalence}
-use Rattle.hol_formulas.specs.Prelude.{boolean}
+use Rattle.hol_formulas.specs.Formula.{quantifier_type, truth, equivalence}
 use Rattle.hol_formulas.proofs.EquationTypes.{type_eq_itself}
 use Rattle.hol_kernel.specs.Items.{Items}
 use Rattle.hol_kernel.specs.Sequent.{Hyps, no_hyps, only_hyp, hyps_image, Sequent, sequent_of}
@@ -23,18 +22,16 @@ use Rattle.hol_kernel.specs.Typing.{HasType, is_type, is_type_at}
 use Rattle.hol_kernel.specs.Derivation.{Derives, by_abs, by_inst, by_inst_type}
 use Rattle.hol_kernel.proofs.Sound.{Derived}
 use Rattle.hol_kernel.proofs.Variables.{known_typed}
-use Rattle.hol_kernel.proofs.EqualSteps.{sym_derived}
 use Rattle.hol_kernel.proofs.WellTyped.{applied_typed, sides_typed, theorem_typed}
 use Rattle.hol_equal.specs.Rules.{m_with}
 use Rattle.hol_equal.proofs.Beta.{image_derived}
 use Rattle.hol_derived.specs.Applied.{constantly_true}
-use Rattle.hol_derived.specs.Lemmas.{general, put_predicate, put_at, IsGeneralTheorem, GenTheorems, CasesTheorems}
-use Rattle.hol_derived.specs.Unfolded.{either, exists_in}
-use Rattle.hol_derived.specs.declared.lemma.Lemma.{Lemma}
-use Rattle.hol_derived.specs.declared.lemma.Lemma.TheVariants.{Gen, DisjCases, Spec, Exists}
-use Rattle.hol_derived.proofs.Connected.{operands_typed, typed_whole}
-use Rattle.hol_derived.proofs.Derivations.{from_one, from_equivalence, disch_derived, mp_derived, eqt_intro_derived}
-use Rattle.hol_derived.proofs.Instances.{cases_are, generalization_is, specialization_is, existence_is}
+use Rattle.hol_derived.specs.Lemmas.{general, put_predicate, put_at}
+use Rattle.hol_derived.specs.Which.{Lemma, Gen, Spec}
+use Rattle.hol_derived.proofs.OfConnectives.{gen_lemma, spec_lemma}
+use Rattle.hol_derived.proofs.Connected.{typed_whole}
+use Rattle.hol_derived.proofs.Derivations.{from_one, from_equivalence, eqt_intro_derived}
+use Rattle.hol_derived.proofs.Instances.{generalization_is, specialization_is}
 use Rattle.hol_derived.proofs.Typed.{domain_stands}
 
 module _ (items : Items) where
@@ -49,90 +46,55 @@ module _ (items : Items) where
   -- ---- GEN
 
   -- a general theorem has a derivation at each predicate
-  pub at_predicate : (a : TypeTree) (f : Nameless) (which : Lemma) → is_type items a ≡ true → HasType items f (fun_type a bool_type) → IsGeneralTheorem items which → Derived items (put_predicate a f (general which))
+  pub at_predicate : (a : TypeTree) (f : Nameless) (which : Lemma) → is_type items a ≡ true → HasType items f (fun_type a bool_type) → Derived items (general which) → Derived items (put_predicate a f (general which))
   at_predicate a f which stands typed known =
       let types : List (TypeTree × List ℕ) = (a, codes "A") ∷ [] in
       by_inst (hyps_image (types_inst types) (general which).hyps) (types_inst types (general which).concl) ((f, (codes "P", fun_type a bool_type)) ∷ [])
       ((λ i. is_type_at (typed i) (fun_type a bool_type) && true) ∙ ap (λ k. k && true) (type_eq_itself (fun_type a bool_type)))
-      (by_inst_type (general which).hyps (general which).concl types (λ i. stands i && true) known.derives)
+      (by_inst_type (general which).hyps (general which).concl types (λ i. stands i && true) known)
 
-  pub gen_derived : (v : List ℕ × TypeTree) (a : Sequent) → GenTheorems items → is_type items v.1 ≡ true → is_free_in (set.items a.hyps) v ≡ false → Derived items a → Derives items a.hyps (app (fixed (codes "!") (quantifier_type v.1)) (bind v a.concl))
-  gen_derived v a known stands absent d =
+  pub gen_derived : (v : List ℕ × TypeTree) (a : Sequent) → is_type items v.1 ≡ true → is_free_in (set.items a.hyps) v ≡ false → Derived items a → Derives items a.hyps (app (fixed (codes "!") (quantifier_type v.1)) (bind v a.concl))
+  gen_derived v a stands absent d =
       let p = a.concl in
       let f = bind v p in
       let own : HasType items p bool_type = formula a.hyps p d in
-      let proved : Derives items a.hyps (equivalence p truth) = eqt_intro_derived items p p own own a known.proved refl d in
+      let proved : Derives items a.hyps (equivalence p truth) = eqt_intro_derived items p p own own a refl d in
       let under : Derives items a.hyps (equation (fun_type v.1 bool_type) f (bind v truth)) = by_abs a.hyps bool_type v p truth stands absent proved in
       let typed : HasType items f (fun_type v.1 bool_type) = (sides_typed items (fun_type v.1 bool_type) bool_type f (bind v truth) (formula a.hyps (equation (fun_type v.1 bool_type) f (bind v truth)) under)).0 in
       let constant = equation (fun_type v.1 bool_type) f (constantly_true v.1) in
       let every = app (fixed (codes "!") (quantifier_type v.1)) f in
       let rule : Derives items no_hyps (equivalence constant every) =
-      subst (Derived items) (generalization_is v.1 f (typed_whole items f (fun_type v.1 bool_type) typed)) (at_predicate v.1 f Gen stands typed known.every) in
+      subst (Derived items) (generalization_is v.1 f (typed_whole items f (fun_type v.1 bool_type) typed)) (at_predicate v.1 f Gen stands typed (gen_lemma items)) in
       from_equivalence items constant every (sequent_of a.hyps (equation (fun_type v.1 bool_type) f (bind v truth))) rule refl under
-
-  -- ---- DISJ_CASES
-
-  module _ (p q r : Nameless) (first : HasType items p bool_type) (second : HasType items q bool_type) (third : HasType items r bool_type) where
-    at_three : IsGeneralTheorem items DisjCases → Derives items (only_hyp (disjunction p q)) (either p q r)
-    at_three known =
-        subst (Derived items) (cases_are p q r (typed_whole items p bool_type first) (typed_whole items q bool_type second) (typed_whole items r bool_type third))
-        (by_inst (general DisjCases).hyps (general DisjCases).concl ((p, boolean (codes "p")) ∷ (q, boolean (codes "q")) ∷ (r, boolean (codes "r")) ∷ [])
-        (λ i. is_type_at (first i) bool_type && (is_type_at (second i) bool_type && (is_type_at (third i) bool_type && true))) known.derives)
-
-    pub cases_derived :
-        (a : Sequent) (bs cs : Hyps) (s : Nameless) → CasesTheorems items → a.concl ≡ disjunction p q → strip r ≡ strip s → Derived items a → Derives items bs r → Derives items cs s →
-        Derives items (set.union (set.union a.hyps (set.remove bs (strip p))) (set.remove cs (strip q))) r
-    cases_derived a bs cs s known is same d e f =
-        let fourth : HasType items s bool_type = formula cs s f in
-        let one = implication p r in
-        let rest = implication (implication q r) r in
-        let ways : Derives items a.hyps (implication one rest) = from_one items (disjunction p q) (implication one rest) a (at_three known.cases) (ap strip (sym is)) d in
-        let types = operands_typed items (codes "==>") one rest bool_type (formula a.hyps (implication one rest) ways) in
-        let inner = operands_typed items (codes "==>") (implication q r) r bool_type types.1 in
-        let way : Derives items (set.remove bs (strip p)) one = disch_derived items p r first third bs known.disch.both known.disch.first known.disch.implied e in
-        let left : Derives items (set.union a.hyps (set.remove bs (strip p))) rest =
-        mp_derived items one rest types.0 types.1 (sequent_of a.hyps (implication one rest)) (sequent_of (set.remove bs (strip p)) one) known.mp refl refl ways way in
-        let other : Derives items (set.remove cs (strip q)) (implication q s) = disch_derived items q s second fourth cs known.disch.both known.disch.first known.disch.implied f in
-        mp_derived items (implication q r) r inner.0 third (sequent_of (set.union a.hyps (set.remove bs (strip p))) rest) (sequent_of (set.remove cs (strip q)) (implication q s)) known.mp refl (ap (λ (t : Nameless). implication (strip q) t) same) left other
 
   -- ---- SPEC, EXISTS
 
   -- a general theorem has a derivation at each predicate and each member of its type
-  at_member : (a : TypeTree) (f t : Nameless) (which : Lemma) → is_type items a ≡ true → HasType items f (fun_type a bool_type) → HasType items t a → IsGeneralTheorem items which → Derived items (put_at a f t (general which))
+  pub at_member : (a : TypeTree) (f t : Nameless) (which : Lemma) → is_type items a ≡ true → HasType items f (fun_type a bool_type) → HasType items t a → Derived items (general which) → Derived items (put_at a f t (general which))
   at_member a f t which stands typed member known =
       let types : List (TypeTree × List ℕ) = (a, codes "A") ∷ [] in
       by_inst (hyps_image (types_inst types) (general which).hyps) (types_inst types (general which).concl) ((f, (codes "P", fun_type a bool_type)) ∷ (t, (codes "x", a)) ∷ [])
       ((λ i. is_type_at (typed i) (fun_type a bool_type) && (is_type_at (member i) a && true)) ∙ (λ i. type_eq_itself (fun_type a bool_type) i && (type_eq_itself a i && true)))
-      (by_inst_type (general which).hyps (general which).concl types (λ i. stands i && true) known.derives)
+      (by_inst_type (general which).hyps (general which).concl types (λ i. stands i && true) known)
 
   module _ (v : List ℕ × TypeTree) (n t : Nameless) (function : HasType items (bind v n) (fun_type v.1 bool_type)) (member : HasType items t v.1) where
-    at_term : Nameless
+    abbrev at_term : Nameless
     at_term = app (bind v n) t
 
     closed : IsClosed 0 t
     closed = typed_whole items t v.1 member
 
     applied : HasType items at_term bool_type
-    unfolding at_term
     applied = applied_typed items v.1 bool_type (bind v n) t function member
 
-    reduces : Derives items no_hyps (equivalence at_term (m_with t v n))
-    unfolding at_term
+    pub reduces : Derives items no_hyps (equivalence at_term (m_with t v n))
     reduces = image_derived items v n t bool_type closed applied
 
-    stands : is_type items v.1 ≡ true
+    pub stands : is_type items v.1 ≡ true
     stands = domain_stands items v.1 bool_type (bind v n) function
 
-    pub spec_derived : (a : Sequent) → IsGeneralTheorem items Spec → a.concl ≡ app (fixed (codes "!") (quantifier_type v.1)) (bind v n) → Derived items a → Derives items a.hyps (m_with t v n)
-    unfolding at_term
-    spec_derived a known is d =
+    pub spec_derived : (a : Sequent) → a.concl ≡ app (fixed (codes "!") (quantifier_type v.1)) (bind v n) → Derived items a → Derives items a.hyps (m_with t v n)
+    spec_derived a is d =
         let every = app (fixed (codes "!") (quantifier_type v.1)) (bind v n) in
-        let rule : Derives items (only_hyp every) at_term = subst (Derived items) (specialization_is v.1 (bind v n) t (typed_whole items (bind v n) (fun_type v.1 bool_type) function) closed) (at_member v.1 (bind v n) t Spec stands function member known) in
+        let rule : Derives items (only_hyp every) at_term = subst (Derived items) (specialization_is v.1 (bind v n) t (typed_whole items (bind v n) (fun_type v.1 bool_type) function) closed) (at_member v.1 (bind v n) t Spec stands function member (spec_lemma items)) in
         from_equivalence items at_term (m_with t v n) (sequent_of a.hyps at_term) reduces refl (from_one items every at_term a rule (ap strip (sym is)) d)
-
-    pub exists_derived : (a : Sequent) → IsGeneralTheorem items Exists → strip (m_with t v n) ≡ strip a.concl → Derived items a → Derives items a.hyps (exists_in v.1 (bind v n))
-    unfolding at_term
-    exists_derived a known fits d =
-        let back : Derives items no_hyps (equivalence (m_with t v n) at_term) = sym_derived items no_hyps bool_type at_term (m_with t v n) (formula no_hyps (equivalence at_term (m_with t v n)) reduces) reduces in
-        let rule : Derives items (only_hyp at_term) (exists_in v.1 (bind v n)) = subst (Derived items) (existence_is v.1 (bind v n) t (typed_whole items (bind v n) (fun_type v.1 bool_type) function) closed) (at_member v.1 (bind v n) t Exists stands function member known) in
-        from_one items at_term (exists_in v.1 (bind v n)) (sequent_of a.hyps at_term) rule refl (from_equivalence items (m_with t v n) at_term a back fits d)

@@ -1,28 +1,21 @@
 -- The general theorems of the rules, of formulas p and q, or of P:A->bool and x:A (bool.ml keeps each beside its rule, as pth): what each
 -- assumes, and what it concludes. Private clauses alone speak of them.
-use Rattle.std.specs.Prelude.{◌≡◌, Bool, true, false, cond, List, [], ◌∷◌, codes}
-use Rattle.std.specs.List.{AllByRecursion}
+use Rattle.std.specs.Prelude.{Bool, true, false, cond, [], ◌∷◌, codes}
 use Rattle.std.specs.FinSet as set
 use Rattle.hol_types.specs.Tree.{TypeTree}
 use Rattle.hol_types.specs.Fun.{fun_type}
-use Rattle.hol_terms.specs.Named.{Named, constant}
 use Rattle.hol_terms.specs.Nameless.{Nameless, fixed, app}
 use Rattle.hol_terms.specs.Alpha.{strip}
 use Rattle.hol_formulas.specs.Equation.{bool_type, equation}
-use Rattle.hol_formulas.specs.Formula.{connective_type, negation_type, quantifier_type, truth, falsity, negation, conjunction, disjunction, implication, equivalence, universal}
+use Rattle.hol_formulas.specs.Formula.{quantifier_type, truth, falsity, negation, conjunction, disjunction, implication, equivalence, universal}
 use Rattle.hol_formulas.specs.Constants.{var_a}
-use Rattle.hol_formulas.specs.Making.{mk_falsity}
 use Rattle.hol_formulas.specs.Prelude.{boolean}
 use Rattle.hol_subst.specs.Substitution.{term_subst, types_inst}
-use Rattle.hol_kernel.specs.Items.{Items}
 use Rattle.hol_kernel.specs.Rules.{sequent_image}
-use Rattle.hol_kernel.specs.Theorem.{Theorem, IsTheorem, theorem_on}
 use Rattle.hol_kernel.specs.Sequent.{Hyps, no_hyps, only_hyp, Sequent, sequent_of}
 use Rattle.hol_derived.specs.Applied.{constantly_true}
 use Rattle.hol_derived.specs.Unfolded.{letter, predicate, of_witness, exists_in, implied_by_all, either}
-use Rattle.hol_derived.specs.declared.lemma.Lemma.{Lemma}
-use Rattle.hol_derived.specs.declared.signs.Signs.{Signs}
-use Rattle.hol_derived.specs.declared.lemma.Lemma.TheVariants.{EqtIntro, Both, Conj, Conjunct1, Conjunct2, Mp, Disch, Disj1, Disj2, Contr, NotIntro, EqfIntro, Gen, DisjCases, Spec, Exists, Choose}
+use Rattle.hol_derived.specs.Which.{Lemma, EqtIntro, Both, Conj, Conjunct1, Conjunct2, Mp, Disch, Disj1, Disj2, Contr, NotIntro, EqfIntro, Gen, DisjCases, Spec, Exists, Choose}
 
 abbrev pub hypothesis : Lemma → Nameless → Nameless → Nameless
 hypothesis EqtIntro p q = p
@@ -110,39 +103,6 @@ lemma_at which p q =
 -- the general theorem itself, of the variables p and q of type bool
 abbrev pub general : Lemma → Sequent
 general which = lemma_at which (letter (codes "p")) (letter (codes "q"))
-
--- the general theorem is a theorem over the basis, made or not
-abbrev pub IsGeneralTheorem : Items → Lemma → Type 0
-IsGeneralTheorem basis which = IsTheorem (theorem_on basis (general which))
-
--- the general theorems that the derivations of DISCH, GEN and DISJ_CASES begin with
-pub record DischTheorems (basis : Items) : Type 0 where
-  pub both : IsGeneralTheorem basis Both
-  pub first : IsGeneralTheorem basis Conjunct1
-  pub implied : IsGeneralTheorem basis Disch
-
-pub record GenTheorems (basis : Items) : Type 0 where
-  pub proved : IsGeneralTheorem basis EqtIntro
-  pub every : IsGeneralTheorem basis Gen
-
-pub record CasesTheorems (basis : Items) : Type 0 where
-  pub disch : DischTheorems basis
-  pub mp : IsGeneralTheorem basis Mp
-  pub cases : IsGeneralTheorem basis DisjCases
-
--- the theorems that were made, each with its name, are those of a basis
-abbrev pub AreGeneral : Items → List (Lemma × Theorem) → Type 0
-AreGeneral basis made = AllByRecursion (λ e. e.1 ≡ theorem_on basis (general e.0)) made
-
--- the constants that rules make formulas with
-abbrev pub AreSigns : Signs → Type 0
-AreSigns signs =
-    (signs.conjunction ≡ constant (codes "/\\") connective_type) × (signs.disjunction ≡ constant (codes "\\/") connective_type) × (signs.implication ≡ constant (codes "==>") connective_type)
-    × (signs.negation ≡ constant (codes "~") negation_type) × (signs.falsity ≡ mk_falsity)
-
--- what is kept over a basis: these, truth, and the constants
-abbrev pub AreKept : Items → List (Lemma × Theorem) → Theorem → Signs → Type 0
-AreKept basis made holds signs = AreGeneral basis made × (holds ≡ theorem_on basis (sequent_of no_hyps truth)) × AreSigns signs
 
 -- p and q for the variables of these names, in a sequent
 abbrev pub put : Nameless → Nameless → Sequent → Sequent

@@ -1,4 +1,4 @@
--- What written terms stand for. Only private clauses speak of it.
+-- What written terms stand for.
 use Rattle.hol_types.specs.Tree.{TypeTree}
 use Rattle.hol_types.specs.Fun.{fun_type}
 use Rattle.hol_terms.specs.Named.{Named, var, constant, comb, abs}

@@ -9,6 +9,7 @@ mod equality;
 mod equations;
 mod generic;
 mod laws;
+mod logical;
 mod names;
 mod postulate;
 mod prelude;
@@ -28,14 +29,16 @@ pub use connectives::{
 pub use equality::Equality;
 pub use equations::{Sides, dest_eq, is_eq, mk_eq, mk_eq_from};
 pub use laws::{formulas_have_parts, parts_make_formulas};
+pub use logical::Connectives;
 pub use names::{has_axiom_name, has_constant_name, has_type_name};
 pub use postulate::Postulate;
 pub use prelude::{has_constant, has_type, instances_are_substitutions, is_instance};
 pub use quantifiers::{dest_exists, dest_forall, is_exists, is_forall, mk_exists, mk_forall};
-pub use sort::function_type;
+pub use sort::{Sort, function_type};
 pub use standing::{prelude_constants, prelude_types};
 pub use statements::statement;
 pub use terms::{constant, occurrence, variable};
 pub use types::{
     bool_type, connective_type, is_bool, negation_type, quantifier_type, type_variable,
 };
+pub use written::{Written, written_term};

@@ -12,7 +12,7 @@ use std::alloc::{AllocError, Global};
 
 /// A type that occurs in the prelude's statements.
 #[derive(Clone, Copy)]
-pub(crate) enum Sort {
+pub enum Sort {
     /// `bool`.
     Truth,
     /// `bool->bool`.

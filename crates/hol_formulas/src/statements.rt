@@ -13,7 +13,7 @@ use crate::sort::Sort;
 use crate::written::Written::{
     self, Applied, Connective, Constant, Equation, Function, Quantified, Variable,
 };
-use crate::written::make;
+use crate::written::written_term;
 use hol_terms::Term;
 use std::alloc::{AllocError, Global};
 
@@ -230,7 +230,7 @@ const ETA: Written<'static> = Quantified("!", "t", Sort::Function, &SAME_MAP);
 fn eta_axiom(alloc: Global) -> Result<Term, AllocError>
     ensures { IfOk result (λ t. t ≡ postulated postulate.EtaAx) }
 {
-    make(alloc, &ETA)
+    written_term(alloc, &ETA)
 }
 
 const SELECT: Written<'static> = Constant("@", Sort::Choice);
@@ -249,7 +249,7 @@ const CHOICE: Written<'static> = Quantified("!", "P", Sort::Property, &CHOICE_OF
 fn choice_axiom(alloc: Global) -> Result<Term, AllocError>
     ensures { IfOk result (λ t. t ≡ postulated postulate.SelectAx) }
 {
-    make(alloc, &CHOICE)
+    written_term(alloc, &CHOICE)
 }
 
 const SUCCESSOR: Written<'static> = Variable("f", Sort::OnIndividuals);
@@ -272,7 +272,7 @@ const INFINITY: Written<'static> = Quantified("?", "f", Sort::OnIndividuals, &IS
 fn infinity_axiom(alloc: Global) -> Result<Term, AllocError>
     ensures { IfOk result (λ t. t ≡ postulated postulate.InfinityAx) }
 {
-    make(alloc, &INFINITY)
+    written_term(alloc, &INFINITY)
 }
 
 // The definition of the constant of the name and the type as the term.
@@ -280,7 +280,7 @@ fn define(alloc: Global, name: &str, sort: Sort, right: &Written<'_>) -> Result<
     requires { IsSome (named_type (defining name.now (sort_type sort) (written_term right.now))) }
     ensures { IfOk result (λ t. t ≡ defining name.now (sort_type sort) (written_term right.now)) }
 {
-    make(alloc, &Equation(sort, &Constant(name, sort), right))
+    written_term(alloc, &Equation(sort, &Constant(name, sort), right))
 }
 
 // The definition of a connective of `p` and `q`.

@@ -15,7 +15,7 @@ use std::alloc::{AllocError, Global};
 
 /// A term as it is written, each variable and constant with its type.
 #[derive(Clone, Copy)]
-pub(crate) enum Written<'a> {
+pub enum Written<'a> {
     /// A variable.
     Variable(&'a str, Sort),
     /// A constant.
@@ -32,9 +32,9 @@ pub(crate) enum Written<'a> {
     Quantified(&'a str, &'a str, Sort, &'a Written<'a>),
 }
 
-/// The term.
+/// The term that is written.
 #[cycle(made)]
-pub(crate) fn make(alloc: Global, written: &Written<'_>) -> Result<Term, AllocError>
+pub fn written_term(alloc: Global, written: &Written<'_>) -> Result<Term, AllocError>
     requires { IsSome (named_type (written_term written.now)) }
     ensures { IfOk result (λ t. t ≡ written_term written.now) }
 {
@@ -69,8 +69,8 @@ fn make_application(alloc: Global, f: &Written<'_>, x: &Written<'_>) -> Result<T
     requires { IsSome (named_type (comb (written_term f.now) (written_term x.now))) }
     ensures { IfOk result (λ t. t ≡ comb (written_term f.now) (written_term x.now)) }
 {
-    let function = make(alloc, f)?;
-    let argument = make(alloc, x)?;
+    let function = written_term(alloc, f)?;
+    let argument = written_term(alloc, x)?;
     Term::application(alloc, &function, &argument)
 }
 
@@ -86,7 +86,7 @@ fn make_abstraction(
 {
     let ty = type_of(alloc, sort)?;
     let v = variable(alloc, name, &ty)?;
-    let body = make(alloc, body)?;
+    let body = written_term(alloc, body)?;
     Term::abstraction(alloc, &v, &body)
 }
 
@@ -102,8 +102,8 @@ fn make_equation(
     ensures { IfOk result (λ t. t ≡ mk_eq (sort_type sort) (written_term left.now) (written_term right.now)) }
 {
     let ty = type_of(alloc, sort)?;
-    let left_side = make(alloc, left)?;
-    let right_side = make(alloc, right)?;
+    let left_side = written_term(alloc, left)?;
+    let right_side = written_term(alloc, right)?;
     mk_eq(alloc, &ty, &left_side, &right_side)
 }
 
@@ -117,8 +117,8 @@ fn make_connective(
     requires { IsSome (named_type (mk_binary sign.now (written_term p.now) (written_term q.now))) }
     ensures { IfOk result (λ t. t ≡ mk_binary sign.now (written_term p.now) (written_term q.now)) }
 {
-    let left = make(alloc, p)?;
-    let right = make(alloc, q)?;
+    let left = written_term(alloc, p)?;
+    let right = written_term(alloc, q)?;
     mk_binary(alloc, sign, &left, &right)
 }
 
@@ -135,6 +135,6 @@ fn make_quantified(
 {
     let ty = type_of(alloc, sort)?;
     let v = variable(alloc, name, &ty)?;
-    let p = make(alloc, p)?;
+    let p = written_term(alloc, p)?;
     mk_quantifier(alloc, sign, &v, &p)
 }

@@ -7,45 +7,32 @@ ghost use Rattle.hol_just.specs.Reasons.{conjoined, left_disjunct};
 ghost use Rattle.hol_just.specs.Over.{Infers};
 
 use crate::cursor::Cursor;
-use hol_derived::Lemmas;
+use hol_derived::applied;
 use hol_kernel::Thm;
 use hol_terms::Term;
 use std::alloc::{AllocError, Global};
 
 /// CONJ of the two theorems after the place.
-pub(crate) fn conjunction(
-    alloc: Global,
-    lemmas: &mut Lemmas,
-    thms: &mut Cursor,
-) -> Result<(), AllocError>
-    requires lemmas { lemmas.old ≡ thms.old.basis }
-    requires gives { IsSome (inferred (from_two conjoined) thms.old.after) }
-    ensures infers { OnOk result (Infers (from_two conjoined) thms.old thms.new) }
-    ensures kept { lemmas.new ≡ lemmas.old }
+pub(crate) fn conjunction(alloc: Global, thms: &mut Cursor) -> Result<(), AllocError>
+    requires { IsSome (inferred (from_two conjoined) thms.old.after) }
+    ensures { OnOk result (Infers (from_two conjoined) thms.old thms.new) }
 {
     let Some(left) = thms.take() else {
         unreachable!()
     };
-    conjunction_with(alloc, left, lemmas, thms)
+    conjunction_with(alloc, left, thms)
 }
 
 // CONJ of the theorem and the one after the place.
-fn conjunction_with(
-    alloc: Global,
-    left: Thm,
-    lemmas: &mut Lemmas,
-    thms: &mut Cursor,
-) -> Result<(), AllocError>
-    requires lemmas { lemmas.old ≡ thms.old.basis }
+fn conjunction_with(alloc: Global, left: Thm, thms: &mut Cursor) -> Result<(), AllocError>
     requires over { left.basis ≡ thms.old.basis }
     requires gives { IsSome (inferred (from_one (conjoined left.sequent)) thms.old.after) }
-    ensures infers { OnOk result (Infers (from_one (conjoined left.sequent)) thms.old thms.new) }
-    ensures kept { lemmas.new ≡ lemmas.old }
+    ensures { OnOk result (Infers (from_one (conjoined left.sequent)) thms.old thms.new) }
 {
     let Some(right) = thms.take() else {
         unreachable!()
     };
-    let made = lemmas.conj(alloc, &left, &right);
+    let made = applied::conj(alloc, &left, &right);
     drop(left);
     drop(right);
     let thm = made?;
@@ -53,142 +40,96 @@ fn conjunction_with(
 }
 
 /// DISJ1 of the theorem after the place.
-pub(crate) fn left_disjunct(
-    alloc: Global,
-    q: &Term,
-    lemmas: &mut Lemmas,
-    thms: &mut Cursor,
-) -> Result<(), AllocError>
-    requires lemmas { lemmas.old ≡ thms.old.basis }
-    requires gives { IsSome (inferred (from_one (left_disjunct thms.old.basis (nameless [] q.now))) thms.old.after) }
-    ensures infers { OnOk result (Infers (from_one (left_disjunct thms.old.basis (nameless [] q.now))) thms.old thms.new) }
-    ensures kept { lemmas.new ≡ lemmas.old }
+pub(crate) fn left_disjunct(alloc: Global, q: &Term, thms: &mut Cursor) -> Result<(), AllocError>
+    requires { IsSome (inferred (from_one (left_disjunct thms.old.basis (nameless [] q.now))) thms.old.after) }
+    ensures { OnOk result (Infers (from_one (left_disjunct thms.old.basis (nameless [] q.now))) thms.old thms.new) }
 {
     let Some(left) = thms.take() else {
         unreachable!()
     };
-    let made = lemmas.disj1(alloc, &left, q);
+    let made = applied::disj1(alloc, &left, q);
     drop(left);
     let thm = made?;
     thms.put(thm)
 }
 
 /// DISJ2 of the theorem after the place.
-pub(crate) fn right_disjunct(
-    alloc: Global,
-    p: &Term,
-    lemmas: &mut Lemmas,
-    thms: &mut Cursor,
-) -> Result<(), AllocError>
-    requires lemmas { lemmas.old ≡ thms.old.basis }
-    requires gives { IsSome (inferred (from_one (disj2_of thms.old.basis (nameless [] p.now))) thms.old.after) }
-    ensures infers { OnOk result (Infers (from_one (disj2_of thms.old.basis (nameless [] p.now))) thms.old thms.new) }
-    ensures kept { lemmas.new ≡ lemmas.old }
+pub(crate) fn right_disjunct(alloc: Global, p: &Term, thms: &mut Cursor) -> Result<(), AllocError>
+    requires { IsSome (inferred (from_one (disj2_of thms.old.basis (nameless [] p.now))) thms.old.after) }
+    ensures { OnOk result (Infers (from_one (disj2_of thms.old.basis (nameless [] p.now))) thms.old thms.new) }
 {
     let Some(right) = thms.take() else {
         unreachable!()
     };
-    let made = lemmas.disj2(alloc, p, &right);
+    let made = applied::disj2(alloc, p, &right);
     drop(right);
     let thm = made?;
     thms.put(thm)
 }
 
 /// DISCH of the theorem after the place.
-pub(crate) fn discharge(
-    alloc: Global,
-    p: &Term,
-    lemmas: &mut Lemmas,
-    thms: &mut Cursor,
-) -> Result<(), AllocError>
-    requires lemmas { lemmas.old ≡ thms.old.basis }
-    requires gives { IsSome (inferred (from_one (disch_of thms.old.basis (nameless [] p.now))) thms.old.after) }
-    ensures infers { OnOk result (Infers (from_one (disch_of thms.old.basis (nameless [] p.now))) thms.old thms.new) }
-    ensures kept { lemmas.new ≡ lemmas.old }
+pub(crate) fn discharge(alloc: Global, p: &Term, thms: &mut Cursor) -> Result<(), AllocError>
+    requires { IsSome (inferred (from_one (disch_of thms.old.basis (nameless [] p.now))) thms.old.after) }
+    ensures { OnOk result (Infers (from_one (disch_of thms.old.basis (nameless [] p.now))) thms.old thms.new) }
 {
     let Some(consequent) = thms.take() else {
         unreachable!()
     };
-    let made = lemmas.disch(alloc, p, &consequent);
+    let made = applied::disch(alloc, p, &consequent);
     drop(consequent);
     let thm = made?;
     thms.put(thm)
 }
 
 /// UNDISCH of the theorem after the place.
-pub(crate) fn undischarge(
-    alloc: Global,
-    lemmas: &mut Lemmas,
-    thms: &mut Cursor,
-) -> Result<(), AllocError>
-    requires lemmas { lemmas.old ≡ thms.old.basis }
-    requires gives { IsSome (inferred (from_one undisch_of) thms.old.after) }
-    ensures infers { OnOk result (Infers (from_one undisch_of) thms.old thms.new) }
-    ensures kept { lemmas.new ≡ lemmas.old }
+pub(crate) fn undischarge(alloc: Global, thms: &mut Cursor) -> Result<(), AllocError>
+    requires { IsSome (inferred (from_one undisch_of) thms.old.after) }
+    ensures { OnOk result (Infers (from_one undisch_of) thms.old thms.new) }
 {
     let Some(implication) = thms.take() else {
         unreachable!()
     };
-    let made = lemmas.undisch(alloc, &implication);
+    let made = applied::undisch(alloc, &implication);
     drop(implication);
     let thm = made?;
     thms.put(thm)
 }
 
 /// NOT_INTRO of the theorem after the place.
-pub(crate) fn negation(
-    alloc: Global,
-    lemmas: &mut Lemmas,
-    thms: &mut Cursor,
-) -> Result<(), AllocError>
-    requires lemmas { lemmas.old ≡ thms.old.basis }
-    requires gives { IsSome (inferred (from_one not_intro_of) thms.old.after) }
-    ensures infers { OnOk result (Infers (from_one not_intro_of) thms.old thms.new) }
-    ensures kept { lemmas.new ≡ lemmas.old }
+pub(crate) fn negation(alloc: Global, thms: &mut Cursor) -> Result<(), AllocError>
+    requires { IsSome (inferred (from_one not_intro_of) thms.old.after) }
+    ensures { OnOk result (Infers (from_one not_intro_of) thms.old thms.new) }
 {
     let Some(implication) = thms.take() else {
         unreachable!()
     };
-    let made = lemmas.not_intro(alloc, &implication);
+    let made = applied::not_intro(alloc, &implication);
     drop(implication);
     let thm = made?;
     thms.put(thm)
 }
 
 /// MP of the two theorems after the place.
-pub(crate) fn modus_ponens(
-    alloc: Global,
-    lemmas: &mut Lemmas,
-    thms: &mut Cursor,
-) -> Result<(), AllocError>
-    requires lemmas { lemmas.old ≡ thms.old.basis }
-    requires gives { IsSome (inferred (from_two mp_of) thms.old.after) }
-    ensures infers { OnOk result (Infers (from_two mp_of) thms.old thms.new) }
-    ensures kept { lemmas.new ≡ lemmas.old }
+pub(crate) fn modus_ponens(alloc: Global, thms: &mut Cursor) -> Result<(), AllocError>
+    requires { IsSome (inferred (from_two mp_of) thms.old.after) }
+    ensures { OnOk result (Infers (from_two mp_of) thms.old thms.new) }
 {
     let Some(implication) = thms.take() else {
         unreachable!()
     };
-    modus_ponens_with(alloc, implication, lemmas, thms)
+    modus_ponens_with(alloc, implication, thms)
 }
 
 // MP of the theorem and the one after the place.
-fn modus_ponens_with(
-    alloc: Global,
-    implication: Thm,
-    lemmas: &mut Lemmas,
-    thms: &mut Cursor,
-) -> Result<(), AllocError>
-    requires lemmas { lemmas.old ≡ thms.old.basis }
+fn modus_ponens_with(alloc: Global, implication: Thm, thms: &mut Cursor) -> Result<(), AllocError>
     requires over { implication.basis ≡ thms.old.basis }
     requires gives { IsSome (inferred (from_one (mp_of implication.sequent)) thms.old.after) }
-    ensures infers { OnOk result (Infers (from_one (mp_of implication.sequent)) thms.old thms.new) }
-    ensures kept { lemmas.new ≡ lemmas.old }
+    ensures { OnOk result (Infers (from_one (mp_of implication.sequent)) thms.old thms.new) }
 {
     let Some(premise) = thms.take() else {
         unreachable!()
     };
-    let made = lemmas.mp(alloc, &implication, &premise);
+    let made = applied::mp(alloc, &implication, &premise);
     drop(implication);
     drop(premise);
     let thm = made?;
@@ -196,42 +137,28 @@ fn modus_ponens_with(
 }
 
 /// CONTR of the theorem after the place.
-pub(crate) fn contradiction(
-    alloc: Global,
-    p: &Term,
-    lemmas: &mut Lemmas,
-    thms: &mut Cursor,
-) -> Result<(), AllocError>
-    requires lemmas { lemmas.old ≡ thms.old.basis }
-    requires gives { IsSome (inferred (from_one (contr_of thms.old.basis (nameless [] p.now))) thms.old.after) }
-    ensures infers { OnOk result (Infers (from_one (contr_of thms.old.basis (nameless [] p.now))) thms.old thms.new) }
-    ensures kept { lemmas.new ≡ lemmas.old }
+pub(crate) fn contradiction(alloc: Global, p: &Term, thms: &mut Cursor) -> Result<(), AllocError>
+    requires { IsSome (inferred (from_one (contr_of thms.old.basis (nameless [] p.now))) thms.old.after) }
+    ensures { OnOk result (Infers (from_one (contr_of thms.old.basis (nameless [] p.now))) thms.old thms.new) }
 {
     let Some(falsity) = thms.take() else {
         unreachable!()
     };
-    let made = lemmas.contr(alloc, p, &falsity);
+    let made = applied::contr(p, &falsity);
     drop(falsity);
     let thm = made?;
     thms.put(thm)
 }
 
 /// GEN of the theorem after the place.
-pub(crate) fn generalization(
-    alloc: Global,
-    v: &Term,
-    lemmas: &mut Lemmas,
-    thms: &mut Cursor,
-) -> Result<(), AllocError>
-    requires lemmas { lemmas.old ≡ thms.old.basis }
-    requires gives { IsSome (inferred (from_one (gen_of thms.old.basis v.now)) thms.old.after) }
-    ensures infers { OnOk result (Infers (from_one (gen_of thms.old.basis v.now)) thms.old thms.new) }
-    ensures kept { lemmas.new ≡ lemmas.old }
+pub(crate) fn generalization(alloc: Global, v: &Term, thms: &mut Cursor) -> Result<(), AllocError>
+    requires { IsSome (inferred (from_one (gen_of thms.old.basis v.now)) thms.old.after) }
+    ensures { OnOk result (Infers (from_one (gen_of thms.old.basis v.now)) thms.old thms.new) }
 {
     let Some(property) = thms.take() else {
         unreachable!()
     };
-    let made = lemmas.generalize(alloc, v, &property);
+    let made = applied::generalize(alloc, v, &property);
     drop(property);
     let thm = made?;
     thms.put(thm)
@@ -242,18 +169,15 @@ pub(crate) fn existence(
     alloc: Global,
     e: &Term,
     t: &Term,
-    lemmas: &mut Lemmas,
     thms: &mut Cursor,
 ) -> Result<(), AllocError>
-    requires lemmas { lemmas.old ≡ thms.old.basis }
-    requires gives { IsSome (inferred (from_one (exists_of thms.old.basis (nameless [] e.now) (nameless [] t.now))) thms.old.after) }
-    ensures infers { OnOk result (Infers (from_one (exists_of thms.old.basis (nameless [] e.now) (nameless [] t.now))) thms.old thms.new) }
-    ensures kept { lemmas.new ≡ lemmas.old }
+    requires { IsSome (inferred (from_one (exists_of thms.old.basis (nameless [] e.now) (nameless [] t.now))) thms.old.after) }
+    ensures { OnOk result (Infers (from_one (exists_of thms.old.basis (nameless [] e.now) (nameless [] t.now))) thms.old thms.new) }
 {
     let Some(property) = thms.take() else {
         unreachable!()
     };
-    let made = lemmas.exists(alloc, e, t, &property);
+    let made = applied::exists(e, t, &property);
     drop(property);
     let thm = made?;
     thms.put(thm)

@@ -10,7 +10,6 @@ use crate::cursor::Cursor;
 use crate::just::Just;
 use crate::reason::Move;
 use crate::steps::infer;
-use hol_derived::Lemmas;
 use hol_kernel::{Basis, Thm};
 use std::alloc::{AllocError, Global};
 
@@ -24,40 +23,30 @@ pub fn justify(
     just: &Just,
     thms: Vec<Thm>,
     basis: &Basis,
-    lemmas: &mut Lemmas,
 ) -> Result<Vec<Thm>, AllocError>
-    requires lemmas { lemmas.old ≡ basis.now }
     requires gives { IsSome (gives basis.now just.now (sequents thms.items)) }
     requires fits { AllByRecursion (FitsAt basis.now) just.now }
     requires over { AreOver basis.now thms.items }
     ensures gives { IfOk result (λ out. gives basis.now just.now (sequents thms.items) ≡ Some (sequents out.items)) }
     ensures over { IfOk result (λ out. AreOver basis.now out.items) }
-    ensures kept { lemmas.new ≡ lemmas.old }
 {
     let mut cursor = Cursor::new(alloc, thms, basis)?;
     let moves = just.moves();
     let mut left = moves.len();
     'moves: while left > 0 {
         left -= 1;
-        apply(alloc, &moves[left], lemmas, &mut cursor)?;
+        apply(alloc, &moves[left], &mut cursor)?;
     }
     cursor.finish()
 }
 
 // Applies a move.
-fn apply(
-    alloc: Global,
-    one: &Move,
-    lemmas: &mut Lemmas,
-    thms: &mut Cursor,
-) -> Result<(), AllocError>
-    requires lemmas { lemmas.old ≡ thms.old.basis }
+fn apply(alloc: Global, one: &Move, thms: &mut Cursor) -> Result<(), AllocError>
     requires gives { IsSome (inferred_at one.now.place (inference thms.old.basis one.now.reason) (thms.old.before ++ thms.old.after)) }
     requires fits { Fits thms.old.basis one.now.reason }
-    ensures kept { lemmas.new ≡ lemmas.old }
     ensures basis { OnOk result (thms.new.basis ≡ thms.old.basis) }
     ensures inferred { OnOk result (inferred_at one.now.place (inference thms.old.basis one.now.reason) (thms.old.before ++ thms.old.after) ≡ Some (thms.new.before ++ thms.new.after)) }
 {
     thms.go_to(one.place)?;
-    infer(alloc, &one.reason, lemmas, thms)
+    infer(alloc, &one.reason, thms)
 }

@@ -11,7 +11,7 @@ ghost use Rattle.hol_just.specs.Over.{Infers};
 
 use crate::cursor::Cursor;
 use crate::refusals::made_in_kernel;
-use hol_derived::Lemmas;
+use hol_derived::applied;
 use hol_formulas::{is_forall, occurrence};
 use hol_kernel::{Given, Thm};
 use hol_match::term_match;
@@ -24,17 +24,14 @@ pub(crate) fn matching(
     given: &Given,
     formula: &Term,
     t: &Term,
-    lemmas: &mut Lemmas,
     thms: &mut Cursor,
 ) -> Result<(), AllocError>
-    requires lemmas { lemmas.old ≡ thms.old.basis }
     requires gives { IsSome (inferred (from_none (option_and_then (matching thms.old.basis (bound_variables formula.now) (nameless [] t.now)) (premise_of thms.old.basis given.now))) thms.old.after) }
     requires within { premise.IsOver given.now thms.old.basis }
-    ensures infers { OnOk result (Infers (from_none (option_and_then (matching thms.old.basis (bound_variables formula.now) (nameless [] t.now)) (premise_of thms.old.basis given.now))) thms.old thms.new) }
-    ensures kept { lemmas.new ≡ lemmas.old }
+    ensures { OnOk result (Infers (from_none (option_and_then (matching thms.old.basis (bound_variables formula.now) (nameless [] t.now)) (premise_of thms.old.basis given.now))) thms.old thms.new) }
 {
     let whole = made_in_kernel(given.over(alloc, thms.basis()))?;
-    let body = specialized(alloc, formula, whole, lemmas)?;
+    let body = specialized(alloc, formula, whole)?;
     let made = instance_like(alloc, t, &body);
     drop(body);
     let thm = made?;
@@ -42,25 +39,18 @@ pub(crate) fn matching(
 }
 
 // SPEC at the variables that the formula's outer quantifiers bind, one after the other.
-fn specialized(
-    alloc: Global,
-    formula: &Term,
-    th: Thm,
-    lemmas: &mut Lemmas,
-) -> Result<Thm, AllocError>
-    requires lemmas { lemmas.old ≡ th.basis }
-    requires applies { IsSome (over th.basis (specialized th.basis (bound_variables formula.now) th.sequent)) }
-    ensures gives { IfOk result (λ r. over th.basis (specialized th.basis (bound_variables formula.now) th.sequent) ≡ Some r) }
-    ensures kept { lemmas.new ≡ lemmas.old }
+fn specialized(alloc: Global, formula: &Term, th: Thm) -> Result<Thm, AllocError>
+    requires { IsSome (over th.basis (specialized th.basis (bound_variables formula.now) th.sequent)) }
+    ensures { IfOk result (λ r. over th.basis (specialized th.basis (bound_variables formula.now) th.sequent) ≡ Some r) }
 {
     let Some((v, body)) = outer_variable(formula) else {
         return Ok(th);
     };
     let variable = occurrence(alloc, v)?;
-    let made = lemmas.spec(alloc, &variable, &th);
+    let made = applied::spec(alloc, &variable, &th);
     drop(th);
     let instance = made?;
-    specialized(alloc, body, instance, lemmas)
+    specialized(alloc, body, instance)
 }
 
 // The variable that the formula's outer quantifier binds, by its name there, and what stands under it.

@@ -18,50 +18,42 @@ use crate::equal_steps::{cut, replacement, symmetry};
 use crate::matching_steps::matching;
 use crate::reason::Reason;
 use crate::refusals::made_in_kernel;
-use hol_derived::Lemmas;
 use hol_kernel::{Given, Thm};
 use hol_terms::Term;
 use std::alloc::{AllocError, Global};
 
 /// Applies a reason after the place.
-pub(crate) fn infer(
-    alloc: Global,
-    reason: &Reason,
-    lemmas: &mut Lemmas,
-    thms: &mut Cursor,
-) -> Result<(), AllocError>
-    requires lemmas { lemmas.old ≡ thms.old.basis }
+pub(crate) fn infer(alloc: Global, reason: &Reason, thms: &mut Cursor) -> Result<(), AllocError>
     requires gives { IsSome (inferred (inference thms.old.basis reason.now) thms.old.after) }
     requires fits { Fits thms.old.basis reason.now }
-    ensures infers { OnOk result (Infers (inference thms.old.basis reason.now) thms.old thms.new) }
-    ensures kept { lemmas.new ≡ lemmas.old }
+    ensures { OnOk result (Infers (inference thms.old.basis reason.now) thms.old thms.new) }
 {
     match reason {
         Reason::Reflexivity(t) => reflexivity(alloc, t, thms),
         Reason::Premise(given) => premise(alloc, given, thms),
         Reason::Combination => combination(alloc, thms),
         Reason::Antisymmetry => antisymmetry(alloc, thms),
-        Reason::Conjunction => conjunction(alloc, lemmas, thms),
-        Reason::LeftDisjunct(q) => left_disjunct(alloc, q, lemmas, thms),
-        Reason::RightDisjunct(p) => right_disjunct(alloc, p, lemmas, thms),
-        Reason::Discharge(p) => discharge(alloc, p, lemmas, thms),
-        Reason::Undischarge => undischarge(alloc, lemmas, thms),
-        Reason::Negation => negation(alloc, lemmas, thms),
-        Reason::ModusPonens => modus_ponens(alloc, lemmas, thms),
-        Reason::Contradiction(p) => contradiction(alloc, p, lemmas, thms),
-        Reason::Generalization(v) => generalization(alloc, v, lemmas, thms),
-        Reason::Existence(e, t) => existence(alloc, e, t, lemmas, thms),
-        Reason::LeftConjunct => left_conjunct(alloc, lemmas, thms),
-        Reason::RightConjunct => right_conjunct(alloc, lemmas, thms),
-        Reason::Cases => cases(alloc, lemmas, thms),
+        Reason::Conjunction => conjunction(alloc, thms),
+        Reason::LeftDisjunct(q) => left_disjunct(alloc, q, thms),
+        Reason::RightDisjunct(p) => right_disjunct(alloc, p, thms),
+        Reason::Discharge(p) => discharge(alloc, p, thms),
+        Reason::Undischarge => undischarge(alloc, thms),
+        Reason::Negation => negation(alloc, thms),
+        Reason::ModusPonens => modus_ponens(alloc, thms),
+        Reason::Contradiction(p) => contradiction(alloc, p, thms),
+        Reason::Generalization(v) => generalization(alloc, v, thms),
+        Reason::Existence(e, t) => existence(alloc, e, t, thms),
+        Reason::LeftConjunct => left_conjunct(alloc, thms),
+        Reason::RightConjunct => right_conjunct(alloc, thms),
+        Reason::Cases => cases(alloc, thms),
         Reason::Cut => cut(alloc, thms),
         Reason::Symmetry => symmetry(alloc, thms),
         Reason::Replacement(v, m) => replacement(alloc, v, m, thms),
-        Reason::Specialization(t) => specialization(alloc, t, lemmas, thms),
-        Reason::Choice(v) => choice(alloc, v, lemmas, thms),
-        Reason::Truth => true_formula(lemmas, thms),
-        Reason::Conversion(trace) => conversion(alloc, trace, lemmas, thms),
-        Reason::Matching(given, formula, t) => matching(alloc, given, formula, t, lemmas, thms),
+        Reason::Specialization(t) => specialization(alloc, t, thms),
+        Reason::Choice(v) => choice(alloc, v, thms),
+        Reason::Truth => true_formula(alloc, thms),
+        Reason::Conversion(trace) => conversion(alloc, trace, thms),
+        Reason::Matching(given, formula, t) => matching(alloc, given, formula, t, thms),
     }
 }
 

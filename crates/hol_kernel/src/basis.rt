@@ -12,7 +12,7 @@ ghost use Rattle.hol_kernel.specs.NamedTyping.{is_known_named};
 ghost use Rattle.hol_kernel.specs.Legal.{IsLegalSet, IsStorable};
 
 use crate::item::Item;
-use hol_formulas::Equality;
+use hol_formulas::{Connectives, Equality};
 use hol_terms::{Term, TermNode};
 use hol_types::{Name, Ty, TyNode};
 use std::alloc::{AllocError, Global};
@@ -28,12 +28,13 @@ pub struct Basis {
 
 // What the copies of a basis share: its items, and the `=` between truth values and between terms of other types that rules last asked
 // for, so that equations of one type share it. Types of other sizes have other places, so that the equations of a function, of its
-// argument and of what it makes of it, which rules take in turn, don't put out one another's.
+// argument and of what it makes of it, which rules take in turn, don't put out one another's. And the connectives' constants, once a rule asked for them.
 #[derive(Drop)]
 struct BasisShared {
     items: Vec<Item>,
     equivalence: RefCell<Option<Equality>>,
     equalities: [RefCell<Option<Equality>>; 4],
+    connectives: RefCell<Option<Rc<Connectives>>>,
 }
 
 impl Model for Basis {
@@ -65,6 +66,7 @@ impl Basis {
                 RefCell::new(None),
                 RefCell::new(None),
             ],
+            connectives: RefCell::new(None),
         };
         Ok(Basis {
             shared: Rc::new(alloc, shared)?,
@@ -172,6 +174,28 @@ impl Basis {
             Some(_) => Ok(None),
             None => Ok(None),
         }
+    }
+
+    /// The connectives' constants, which the copies of the basis share once they are made.
+    pub fn connectives(&self, alloc: Global) -> Result<Rc<Connectives>, AllocError> {
+        if let Ok(kept) = self.shared.connectives.try_borrow() {
+            if let Some(connectives) = &*kept {
+                return connectives.clone();
+            }
+        }
+        self.connectives_made(alloc)
+    }
+
+    // The constants, made and kept.
+    #[cold]
+    #[inline(never)]
+    fn connectives_made(&self, alloc: Global) -> Result<Rc<Connectives>, AllocError> {
+        let connectives = Rc::new(alloc, Connectives::new(alloc)?)?;
+        let _ = self
+            .shared
+            .connectives
+            .try_replace(Some(connectives.clone()?));
+        Ok(connectives)
     }
 
     /// Whether the type constructor stands at this arity.

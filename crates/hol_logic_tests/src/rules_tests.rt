@@ -4,7 +4,7 @@ ghost use Rattle.std.specs.Prelude.{◌≡◌, IfOk};
 
 use crate::written::Written;
 use hol_bool::{
-    Lemmas, choose, contr, disch, disj_cases, disj1, disj2, eqf_intro, exists, generalize,
+    choose, conj, contr, disch, disj_cases, disj1, disj2, eqf_intro, eqt_intro, exists, generalize,
     not_intro, undisch,
 };
 use hol_equal::{alpha, ap_term, ap_thm, beta_conv, prove_hyp, subst};
@@ -120,21 +120,18 @@ impl Row<'_> {
         self.premise(&basis, text)
     }
 
-    fn of_theorem(&self, lemmas: &mut Lemmas, a: &Thm) -> Result<bool, Fail>
-        requires { lemmas.old ≡ a.now.basis }
-    {
+    fn of_theorem(&self, a: &Thm) -> Result<bool, Fail> {
         let alloc = self.written.alloc;
         match self.rule {
-            "EQT_INTRO" => self.gives(lemmas.eqt_intro(alloc, a)),
-            "EQF_INTRO" => self.gives(eqf_intro(alloc, lemmas, a)),
-            "UNDISCH" => self.gives(undisch(alloc, lemmas, a)),
-            "NOT_INTRO" => self.gives(not_intro(alloc, lemmas, a)),
+            "EQT_INTRO" => self.gives(eqt_intro(alloc, a)),
+            "EQF_INTRO" => self.gives(eqf_intro(alloc, a)),
+            "UNDISCH" => self.gives(undisch(alloc, a)),
+            "NOT_INTRO" => self.gives(not_intro(alloc, a)),
             _ => Ok(false),
         }
     }
 
-    fn of_theorems(&self, lemmas: &mut Lemmas, a: &Thm, b: &Thm, c: &Thm) -> Result<bool, Fail>
-        requires over { lemmas.old ≡ a.now.basis }
+    fn of_theorems(&self, a: &Thm, b: &Thm, c: &Thm) -> Result<bool, Fail>
         requires second { a.now.basis ≡ b.now.basis }
         requires third { a.now.basis ≡ c.now.basis }
     {
@@ -145,28 +142,25 @@ impl Row<'_> {
             "EQ_MP" => self.gives(Thm::eq_mp(alloc, a, b)),
             "DEDUCT_ANTISYM_RULE" => self.gives(Thm::deduct_antisym(alloc, a, b)),
             "PROVE_HYP" => self.gives(prove_hyp(alloc, a, b)),
-            "CONJ" => self.gives(lemmas.conj(alloc, a, b)),
-            "DISJ_CASES" => self.gives(disj_cases(alloc, lemmas, a, b, c)),
-            _ => self.of_theorem(lemmas, a),
+            "CONJ" => self.gives(conj(alloc, a, b)),
+            "DISJ_CASES" => self.gives(disj_cases(alloc, a, b, c)),
+            _ => self.of_theorem(a),
         }
     }
 
-    fn with_formula(&self, lemmas: &mut Lemmas, t: &Term, a: &Thm) -> Result<bool, Fail>
-        requires { lemmas.old ≡ a.now.basis }
-    {
+    fn with_formula(&self, t: &Term, a: &Thm) -> Result<bool, Fail> {
         let alloc = self.written.alloc;
         match self.rule {
-            "GEN" => self.gives(generalize(alloc, lemmas, t, a)),
-            "DISCH" => self.gives(disch(alloc, lemmas, t, a)),
-            "DISJ1" => self.gives(disj1(alloc, lemmas, a, t)),
-            "DISJ2" => self.gives(disj2(alloc, lemmas, t, a)),
-            "CONTR" => self.gives(contr(alloc, lemmas, t, a)),
+            "GEN" => self.gives(generalize(alloc, t, a)),
+            "DISCH" => self.gives(disch(alloc, t, a)),
+            "DISJ1" => self.gives(disj1(alloc, a, t)),
+            "DISJ2" => self.gives(disj2(alloc, t, a)),
+            "CONTR" => self.gives(contr(alloc, t, a)),
             _ => Ok(false),
         }
     }
 
-    fn with_term(&self, lemmas: &mut Lemmas, t: &Term, a: &Thm, b: &Thm) -> Result<bool, Fail>
-        requires over { lemmas.old ≡ a.now.basis }
+    fn with_term(&self, t: &Term, a: &Thm, b: &Thm) -> Result<bool, Fail>
         requires second { a.now.basis ≡ b.now.basis }
     {
         let alloc = self.written.alloc;
@@ -176,8 +170,8 @@ impl Row<'_> {
             "BETA_CONV" => self.gives(beta_conv(alloc, a.basis(), t)),
             "AP_TERM" => self.gives(ap_term(alloc, t, a)),
             "AP_THM" => self.gives(ap_thm(alloc, a, t)),
-            "CHOOSE" => self.gives(choose(alloc, lemmas, t, a, b)),
-            _ => self.with_formula(lemmas, t, a),
+            "CHOOSE" => self.gives(choose(alloc, t, a, b)),
+            _ => self.with_formula(t, a),
         }
     }
 
@@ -186,61 +180,36 @@ impl Row<'_> {
         self.gives(Thm::inst(self.written.alloc, &pairs, a))
     }
 
-    fn with_two(
-        &self,
-        lemmas: &mut Lemmas,
-        s: &Term,
-        t: &Term,
-        a: &Thm,
-        b: &Thm,
-    ) -> Result<bool, Fail>
-        requires over { lemmas.old ≡ a.now.basis }
+    fn with_two(&self, s: &Term, t: &Term, a: &Thm, b: &Thm) -> Result<bool, Fail>
         requires second { a.now.basis ≡ b.now.basis }
     {
         let alloc = self.written.alloc;
         match self.rule {
             "INST" => self.with_pair(s, t, a),
             "ALPHA" => self.gives(alpha(alloc, a.basis(), s, t)),
-            "EXISTS" => self.gives(exists(alloc, lemmas, s, t, a)),
+            "EXISTS" => self.gives(exists(alloc, s, t, a)),
             "SUBST" => self.gives(subst(alloc, a, s, t, b)),
             _ => Ok(false),
         }
     }
 
-    fn with_terms(
-        &self,
-        terms: &[Term],
-        lemmas: &mut Lemmas,
-        a: &Thm,
-        b: &Thm,
-        c: &Thm,
-    ) -> Result<bool, Fail>
-        requires over { lemmas.old ≡ a.now.basis }
+    fn with_terms(&self, terms: &[Term], a: &Thm, b: &Thm, c: &Thm) -> Result<bool, Fail>
         requires second { a.now.basis ≡ b.now.basis }
         requires third { a.now.basis ≡ c.now.basis }
     {
         match terms {
-            [] => self.of_theorems(lemmas, a, b, c),
-            [t] => self.with_term(lemmas, t, a, b),
-            [s, t] => self.with_two(lemmas, s, t, a, b),
+            [] => self.of_theorems(a, b, c),
+            [t] => self.with_term(t, a, b),
+            [s, t] => self.with_two(s, t, a, b),
             _ => Ok(false),
         }
-    }
-
-    // With the general theorems over the basis of the premises.
-    fn by_lemmas(&self, terms: &[Term], a: &Thm, b: &Thm, c: &Thm) -> Result<bool, Fail>
-        requires second { a.now.basis ≡ b.now.basis }
-        requires third { a.now.basis ≡ c.now.basis }
-    {
-        let mut lemmas = Lemmas::new(self.written.alloc, a.basis())?;
-        self.with_terms(terms, &mut lemmas, a, b, c)
     }
 
     fn of_premise(&self, terms: &[Term], a: &Thm, others: &str) -> Result<bool, Fail> {
         let (second, third) = others.split_once(" | ").unwrap_or((others, "T"));
         let b = self.premise(a.basis(), second)?;
         let c = self.premise(a.basis(), third)?;
-        self.by_lemmas(terms, a, &b, &c)
+        self.with_terms(terms, a, &b, &c)
     }
 
     fn of_premises(&self, terms: &[Term], premises: &str) -> Result<bool, Fail> {

@@ -1,4 +1,4 @@
-//! The prelude: HOL Light's definitions and axioms, and the basic rewrites, as theorems by their names; and the general theorems of the rules.
+//! The prelude: HOL Light's definitions and axioms, and the basic rewrites, as theorems by their names.
 //!
 //! Calls that answer a `Result` answer its memory error where memory is short, and nowhere else.
 #![tactic(auto)]

@@ -7,26 +7,23 @@ ghost use Rattle.hol_prelude.specs.Statements.{prelude_statements, prelude_theor
 ghost use Rattle.hol_prelude.specs.Prelude.{named_theorems, prelude_theorems, theorem_in};
 
 use hol_clauses::{
-    Rules, and_clauses, eq_clauses, imp_clauses, not_clauses_weak, one_one, onto, or_clauses,
-    refl_clause,
+    and_clauses, eq_clauses, imp_clauses, not_clauses_weak, one_one, onto, or_clauses, refl_clause,
 };
-use hol_derived::Lemmas;
+use hol_derived::applied::truth;
 use hol_formulas::Postulate;
-use hol_kernel::Thm;
+use hol_kernel::{Basis, Thm};
 use hol_types::Name;
 use std::alloc::{AllocError, Global};
 use std::marker::Model;
 
-/// The theorems of the prelude over no items, each with its name, the basic rewrites last; and the general theorems of the rules over no items, all made.
+/// The theorems of the prelude over no items, each with its name, the basic rewrites last.
 #[derive(Drop)]
 pub struct Prelude {
     theorems: Vec<(Name, Thm)>,
-    lemmas: Lemmas,
 }
 
 impl Model for Prelude {
     ghost use Rattle.std.specs.Prelude.{◌≡◌, ℕ, List};
-    ghost use Rattle.hol_kernel.specs.Items.{no_items};
     ghost use Rattle.hol_kernel.specs.Theorem.{Theorem};
     ghost use Rattle.hol_prelude.specs.Prelude.{prelude_theorems, theorems_code};
 
@@ -36,22 +33,18 @@ impl Model for Prelude {
 
     ghost view = { λ p. p.theorems.items };
 
-    ghost invariant = { λ p. (p.theorems.items ≡ prelude_theorems) × (p.lemmas ≡ no_items) };
+    ghost invariant = { λ p. p.theorems.items ≡ prelude_theorems };
 }
 
 impl Prelude {
-    /// The prelude: each of its theorems, derived anew.
+    /// The prelude.
     pub fn new(alloc: Global) -> Result<Prelude, AllocError>
         ensures { IfOk result (λ prelude. prelude ≡ prelude_theorems) }
     {
-        let mut rules = Rules::new(alloc)?;
         let mut theorems = Vec::new(alloc);
-        add_given(alloc, &mut rules, &mut theorems)?;
-        add_rewrites(alloc, &mut rules, &mut theorems)?;
-        Ok(Prelude {
-            theorems,
-            lemmas: rules.into_lemmas(),
-        })
+        add_given(alloc, &mut theorems)?;
+        add_rewrites(alloc, &mut theorems)?;
+        Ok(Prelude { theorems })
     }
 
     /// The theorem of the name, and `None` of another name.
@@ -67,13 +60,6 @@ impl Prelude {
         ensures rewrites { map (λ e. e.1) result.now ≡ basic_rewrites }
     {
         &self.theorems[15..]
-    }
-
-    /// The general theorems of the rules, over no items.
-    pub fn lemmas(&self) -> &Lemmas
-        ensures { result.now ≡ no_items }
-    {
-        &self.lemmas
     }
 }
 
@@ -145,71 +131,52 @@ fn add_axioms(alloc: Global, theorems: &mut Vec<(Name, Thm)>) -> Result<(), Allo
 }
 
 // ONE_ONE to TRUTH.
-fn add_functions(
-    alloc: Global,
-    rules: &mut Rules,
-    theorems: &mut Vec<(Name, Thm)>,
-) -> Result<(), AllocError>
+fn add_functions(alloc: Global, theorems: &mut Vec<(Name, Thm)>) -> Result<(), AllocError>
     ensures { IfOk result (λ _. theorems.new.items ≡ theorems.old.items ++ named_theorems (take 4 (drop 11 prelude_statements))) }
 {
-    add(alloc, theorems, "ONE_ONE", one_one(alloc, rules)?)?;
-    add(alloc, theorems, "ONTO", onto(alloc, rules)?)?;
+    add(alloc, theorems, "ONE_ONE", one_one(alloc)?)?;
+    add(alloc, theorems, "ONTO", onto(alloc)?)?;
     add_postulate(alloc, theorems, "INFINITY_AX", Postulate::InfinityAx)?;
-    add(alloc, theorems, "TRUTH", rules.truth()?)
+    let none = Basis::empty(alloc)?;
+    add(alloc, theorems, "TRUTH", truth(alloc, &none)?)
 }
 
 // T_DEF to TRUTH.
-fn add_given(
-    alloc: Global,
-    rules: &mut Rules,
-    theorems: &mut Vec<(Name, Thm)>,
-) -> Result<(), AllocError>
+fn add_given(alloc: Global, theorems: &mut Vec<(Name, Thm)>) -> Result<(), AllocError>
     ensures { IfOk result (λ _. theorems.new.items ≡ theorems.old.items ++ named_theorems (take 15 prelude_statements)) }
 {
     add_connectives(alloc, theorems)?;
     add_axioms(alloc, theorems)?;
-    add_functions(alloc, rules, theorems)
+    add_functions(alloc, theorems)
 }
 
 // REFL_CLAUSE to NOT_CLAUSES_WEAK.
-fn add_first_rewrites(
-    alloc: Global,
-    rules: &mut Rules,
-    theorems: &mut Vec<(Name, Thm)>,
-) -> Result<(), AllocError>
+fn add_first_rewrites(alloc: Global, theorems: &mut Vec<(Name, Thm)>) -> Result<(), AllocError>
     ensures { IfOk result (λ _. theorems.new.items ≡ theorems.old.items ++ named_theorems (take 3 (drop 15 prelude_statements))) }
 {
-    add(alloc, theorems, "REFL_CLAUSE", refl_clause(alloc, rules)?)?;
-    add(alloc, theorems, "EQ_CLAUSES", eq_clauses(alloc, rules)?)?;
+    add(alloc, theorems, "REFL_CLAUSE", refl_clause(alloc)?)?;
+    add(alloc, theorems, "EQ_CLAUSES", eq_clauses(alloc)?)?;
     add(
         alloc,
         theorems,
         "NOT_CLAUSES_WEAK",
-        not_clauses_weak(alloc, rules)?,
+        not_clauses_weak(alloc)?,
     )
 }
 
 // AND_CLAUSES to IMP_CLAUSES.
-fn add_last_rewrites(
-    alloc: Global,
-    rules: &mut Rules,
-    theorems: &mut Vec<(Name, Thm)>,
-) -> Result<(), AllocError>
+fn add_last_rewrites(alloc: Global, theorems: &mut Vec<(Name, Thm)>) -> Result<(), AllocError>
     ensures { IfOk result (λ _. theorems.new.items ≡ theorems.old.items ++ named_theorems (drop 18 prelude_statements)) }
 {
-    add(alloc, theorems, "AND_CLAUSES", and_clauses(alloc, rules)?)?;
-    add(alloc, theorems, "OR_CLAUSES", or_clauses(alloc, rules)?)?;
-    add(alloc, theorems, "IMP_CLAUSES", imp_clauses(alloc, rules)?)
+    add(alloc, theorems, "AND_CLAUSES", and_clauses(alloc)?)?;
+    add(alloc, theorems, "OR_CLAUSES", or_clauses(alloc)?)?;
+    add(alloc, theorems, "IMP_CLAUSES", imp_clauses(alloc)?)
 }
 
 // The basic rewrites.
-fn add_rewrites(
-    alloc: Global,
-    rules: &mut Rules,
-    theorems: &mut Vec<(Name, Thm)>,
-) -> Result<(), AllocError>
+fn add_rewrites(alloc: Global, theorems: &mut Vec<(Name, Thm)>) -> Result<(), AllocError>
     ensures { IfOk result (λ _. theorems.new.items ≡ theorems.old.items ++ named_theorems (drop 15 prelude_statements)) }
 {
-    add_first_rewrites(alloc, rules, theorems)?;
-    add_last_rewrites(alloc, rules, theorems)
+    add_first_rewrites(alloc, theorems)?;
+    add_last_rewrites(alloc, theorems)
 }

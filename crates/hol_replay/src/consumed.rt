@@ -16,7 +16,7 @@ ghost use Rattle.hol_match.specs.SetView.{set_rule, set_given};
 ghost use Rattle.hol_replay.specs.RuleTheorems.{redex_equation};
 
 use crate::redex_theorem::redex_theorem;
-use hol_derived::Lemmas;
+use hol_derived::applied;
 use hol_equal::applied::{abs, beta_conv, mk_comb, refl, trans};
 use hol_kernel::{Basis, Thm};
 use hol_match::SetRule;
@@ -98,21 +98,18 @@ pub(crate) fn reduced(
 #[inline(never)]
 pub(crate) fn replaced(
     alloc: Global,
-    lemmas: &mut Lemmas,
     basis: &Basis,
     rule: &SetRule,
     ty: &Ty,
     t: &Term,
 ) -> Result<Box<Thm>, AllocError>
-    requires one_basis { lemmas.old ≡ basis.now }
     requires read { IsTrue (holds_given (set_given rule.now) basis.now) }
     requires known { is_known_named basis.now t.now ≡ true }
     requires typed { named_type t.now ≡ Some ty.now }
     requires matches { IsSome (contracted [] (set_rule rule.now) (nameless [] t.now)) }
-    ensures gives { IfOk result (λ th. redex_equation basis.now ty.now rule.now (nameless [] t.now) ≡ Some th.value) }
-    ensures kept { lemmas.new ≡ lemmas.old }
+    ensures { IfOk result (λ th. redex_equation basis.now ty.now rule.now (nameless [] t.now) ≡ Some th.value) }
 {
-    boxed(alloc, redex_theorem(alloc, lemmas, basis, rule, ty, t)?)
+    boxed(alloc, redex_theorem(alloc, basis, rule, ty, t)?)
 }
 
 // The theorem in a box.

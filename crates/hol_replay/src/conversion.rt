@@ -5,7 +5,6 @@ ghost use Rattle.hol_replay.specs.Equations.{beta_conversion};
 
 use crate::replaying::replay;
 use hol_conv::{ConvError, beta_all};
-use hol_derived::Lemmas;
 use hol_kernel::{Basis, Thm};
 use hol_terms::Term;
 use std::alloc::{AllocError, Global};
@@ -25,10 +24,7 @@ pub fn beta_conversion(
     ensures { IfOk result (λ th. beta_conversion basis.now turns (nameless [] term.now) ≡ Some th) }
 {
     match beta_all(alloc, term, turns) {
-        Ok(reduced) => {
-            let mut lemmas = Lemmas::new(alloc, basis)?;
-            replay(alloc, &mut lemmas, basis, &reduced.trace)
-        }
+        Ok(reduced) => replay(alloc, basis, &reduced.trace),
         Err(ConvError::Memory) => Err(AllocError),
         Err(ConvError::Limit) | Err(ConvError::TooLarge) => unreachable!(),
     }

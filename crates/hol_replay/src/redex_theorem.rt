@@ -14,7 +14,7 @@ ghost use Rattle.hol_replay.specs.RuleTheorems.{redex_equation};
 ghost use Rattle.hol_match.specs.Standing.{TermsStand};
 
 use crate::rule_theorems::rule_theorem;
-use hol_derived::Lemmas;
+use hol_derived::applied;
 use hol_equal::applied::{refl, trans, unrefused};
 use hol_kernel::{Basis, Thm};
 use hol_match::{Instance, SetRule};
@@ -27,22 +27,19 @@ use std::alloc::{AllocError, Global};
 #[tactic(auto, using(crate::proofs::Instances::redexes))]
 pub(crate) fn redex_theorem(
     alloc: Global,
-    lemmas: &mut Lemmas,
     basis: &Basis,
     rule: &SetRule,
     ty: &Ty,
     t: &Term,
 ) -> Result<Thm, AllocError>
-    requires one_basis { lemmas.old ≡ basis.now }
     requires read { IsTrue (holds_given (set_given rule.now) basis.now) }
     requires known { is_known_named basis.now t.now ≡ true }
     requires typed { named_type t.now ≡ Some ty.now }
     requires matches { IsSome (contracted [] (set_rule rule.now) (nameless [] t.now)) }
-    ensures gives { IfOk result (λ th. redex_equation basis.now ty.now rule.now (nameless [] t.now) ≡ Some th) }
-    ensures kept { lemmas.new ≡ lemmas.old }
+    ensures { IfOk result (λ th. redex_equation basis.now ty.now rule.now (nameless [] t.now) ≡ Some th) }
 {
     rule.sound();
-    let general = rule_theorem(alloc, lemmas, basis, rule)?;
+    let general = rule_theorem(alloc, basis, rule)?;
     let Some(found) = rule.fit(alloc, t)? else {
         unreachable!()
     };

@@ -10,7 +10,7 @@ ghost use Rattle.hol_match.specs.declared.rule_step.RuleStep.TheVariants.{At};
 ghost use Rattle.hol_replay.specs.RuleTheorems.{IsRuleTheorem};
 ghost use Rattle.hol_replay.specs.RuleSteps.{IsSame, IsStepped, IsFollowed, AreGeneral, IsEquation, is_taken};
 
-use hol_derived::Lemmas;
+use hol_derived::applied;
 use hol_equal::applied::{sides_of, unrefused};
 use hol_formulas::{dest_neg, occurrence};
 use hol_kernel::{Basis, Given, Thm};
@@ -22,23 +22,16 @@ use std::alloc::{AllocError, Global};
 ///
 /// The general theorems are those over the basis. The basis has to contain that of the theorem, and an assumed term has to be well typed over it. One rule of the logic for each variable
 /// of the theorem that may be instantiated, and for each quantifier and conjunction above the rule.
-pub fn rule_theorem(
-    alloc: Global,
-    lemmas: &mut Lemmas,
-    basis: &Basis,
-    rule: &SetRule,
-) -> Result<Thm, AllocError>
-    requires one_basis { lemmas.old ≡ basis.now }
-    requires applies { IsTrue (holds_given (set_given rule.now) basis.now) }
-    ensures gives { IfOk result (λ th. IsRuleTheorem basis.now rule.now th) }
-    ensures kept { lemmas.new ≡ lemmas.old }
+pub fn rule_theorem(alloc: Global, basis: &Basis, rule: &SetRule) -> Result<Thm, AllocError>
+    requires { IsTrue (holds_given (set_given rule.now) basis.now) }
+    ensures { IfOk result (λ th. IsRuleTheorem basis.now rule.now th) }
 {
     rule.sound();
     let given = given_theorem(alloc, basis, rule.given())?;
     given.well_typed();
-    let whole = generalized(alloc, lemmas, rule.variables(), &given)?;
-    let part = followed(alloc, lemmas, rule.way(), &whole)?;
-    as_equation(alloc, lemmas, rule, &part)
+    let whole = generalized(alloc, rule.variables(), &given)?;
+    let part = followed(alloc, rule.way(), &whole)?;
+    as_equation(alloc, rule, &part)
 }
 
 // The theorem over the basis, or the assumption of the term.
@@ -52,93 +45,68 @@ fn given_theorem(alloc: Global, basis: &Basis, given: &Given) -> Result<Thm, All
 
 // The theorem, generalized over each of the variables in turn.
 #[tactic(auto, using(crate::proofs::RuleTheorems::generalizing))]
-fn generalized(
-    alloc: Global,
-    lemmas: &mut Lemmas,
-    variables: &[Variable],
-    th: &Thm,
-) -> Result<Thm, AllocError>
-    requires one_basis { lemmas.old ≡ th.now.basis }
-    requires applies { AreGeneral th.now.basis th.now.sequent.hyps variables.now }
-    ensures gives { IfOk result (λ r. IsSame (generalized variables.now th.now.sequent.concl) th.now r) }
-    ensures kept { lemmas.new ≡ lemmas.old }
+fn generalized(alloc: Global, variables: &[Variable], th: &Thm) -> Result<Thm, AllocError>
+    requires { AreGeneral th.now.basis th.now.sequent.hyps variables.now }
+    ensures { IfOk result (λ r. IsSame (generalized variables.now th.now.sequent.concl) th.now r) }
 {
     let mut whole = th.copy()?;
     for v in variables {
-        whole = lemmas.for_each(alloc, v, &whole)?;
+        whole = applied::for_each(alloc, v, &whole)?;
     }
     Ok(whole)
 }
 
 // The theorem after all steps.
 #[tactic(auto, using(crate::proofs::RuleTheorems::following))]
-fn followed(alloc: Global, lemmas: &mut Lemmas, steps: &Way, th: &Thm) -> Result<Thm, AllocError>
-    requires one_basis { lemmas.old ≡ th.now.basis }
-    requires applies { IsSome (way steps.now th.now.sequent.concl) }
-    ensures gives { IfOk result (λ r. IsFollowed steps.now th.now r) }
-    ensures kept { lemmas.new ≡ lemmas.old }
+fn followed(alloc: Global, steps: &Way, th: &Thm) -> Result<Thm, AllocError>
+    requires { IsSome (way steps.now th.now.sequent.concl) }
+    ensures { IfOk result (λ r. IsFollowed steps.now th.now r) }
 {
     match steps.node() {
         WayNode::Start => th.copy(),
         WayNode::After(before, last) => {
-            let part = followed(alloc, lemmas, before, th)?;
-            stepped(alloc, lemmas, last, &part)
+            let part = followed(alloc, before, th)?;
+            stepped(alloc, last, &part)
         }
     }
 }
 
 // The theorem after the step.
 #[tactic(auto, using(crate::proofs::RuleTheorems::stepping))]
-fn stepped(alloc: Global, lemmas: &mut Lemmas, step: &RuleStep, th: &Thm) -> Result<Thm, AllocError>
-    requires one_basis { lemmas.old ≡ th.now.basis }
-    requires applies { IsSome (stepped step.now th.now.sequent.concl) }
-    ensures gives { IfOk result (λ r. IsStepped step.now th.now r) }
-    ensures kept { lemmas.new ≡ lemmas.old }
+fn stepped(alloc: Global, step: &RuleStep, th: &Thm) -> Result<Thm, AllocError>
+    requires { IsSome (stepped step.now th.now.sequent.concl) }
+    ensures { IfOk result (λ r. IsStepped step.now th.now r) }
 {
     match step {
-        RuleStep::At(v) => at_variable(alloc, lemmas, v, th),
-        RuleStep::First => lemmas.left_conjunct(alloc, th),
-        RuleStep::Second => lemmas.right_conjunct(alloc, th),
+        RuleStep::At(v) => at_variable(alloc, v, th),
+        RuleStep::First => applied::left_conjunct(th),
+        RuleStep::Second => applied::right_conjunct(th),
     }
 }
 
 // The theorem's body at the variable.
 #[tactic(auto, using(crate::proofs::RuleTheorems::specializing))]
-fn at_variable(
-    alloc: Global,
-    lemmas: &mut Lemmas,
-    v: &Variable,
-    th: &Thm,
-) -> Result<Thm, AllocError>
-    requires one_basis { lemmas.old ≡ th.now.basis }
-    requires applies { IsSome (stepped (At v.now) th.now.sequent.concl) }
-    ensures gives { IfOk result (λ r. IsStepped (At v.now) th.now r) }
-    ensures kept { lemmas.new ≡ lemmas.old }
+fn at_variable(alloc: Global, v: &Variable, th: &Thm) -> Result<Thm, AllocError>
+    requires { IsSome (stepped (At v.now) th.now.sequent.concl) }
+    ensures { IfOk result (λ r. IsStepped (At v.now) th.now r) }
 {
     th.well_typed();
     let own = occurrence(alloc, v)?;
-    lemmas.specialize(alloc, &own, th)
+    applied::specialize(alloc, &own, th)
 }
 
 // The equation of the rule of a theorem that has this one alone.
 #[tactic(auto, using(crate::proofs::RuleTheorems::ending))]
-fn as_equation(
-    alloc: Global,
-    lemmas: &mut Lemmas,
-    rule: &SetRule,
-    th: &Thm,
-) -> Result<Thm, AllocError>
-    requires one_basis { lemmas.old ≡ th.now.basis }
-    requires applies { set_single rule.now th.now.sequent.concl ≡ (set_rule rule.now).rule }
-    ensures gives { IfOk result (λ r. IsEquation (set_rule rule.now).rule th.now r) }
-    ensures kept { lemmas.new ≡ lemmas.old }
+fn as_equation(alloc: Global, rule: &SetRule, th: &Thm) -> Result<Thm, AllocError>
+    requires { set_single rule.now th.now.sequent.concl ≡ (set_rule rule.now).rule }
+    ensures { IfOk result (λ r. IsEquation (set_rule rule.now).rule th.now r) }
 {
     if is_taken(alloc, rule, th)? {
         return th.copy();
     }
     match dest_neg(th.concl()) {
-        Some(_) => lemmas.eqf_intro(alloc, th),
-        None => lemmas.eqt_intro(alloc, th),
+        Some(_) => applied::eqf_intro(alloc, th),
+        None => applied::eqt_intro(alloc, th),
     }
 }
 

@@ -2,7 +2,6 @@
 ghost use Rattle.std.specs.Prelude.{◌≡◌, [], IfOk, IsTrue};
 ghost use Rattle.hol_goal.specs.Arguments.{Pair, TermAndTheorem};
 ghost use Rattle.hol_goal.specs.ArgumentsView.{args_value};
-ghost use Rattle.hol_kernel.specs.Items.{no_items};
 ghost use Rattle.hol_just.specs.Answering.{suits};
 ghost use Rattle.hol_terms.specs.Nameless.{nameless};
 ghost use Rattle.hol_resolve.specs.Over.{AreOver, AreWithin};
@@ -15,34 +14,30 @@ ghost use Rattle.hol_resolve.specs.Written.{result_map, result_both, term_given,
 
 use crate::readings::Readings;
 use crate::refusal::Refusal;
-use crate::theorems::{cited_theorem, theorem_written};
+use crate::theorems::theorem_written;
 use crate::written::WrittenArgs;
-use hol_bool::Lemmas;
 use hol_goal::TacArgs;
 use hol_kernel::{Basis, Given, Thm};
-use hol_notation_tactics::{ThmExpr, ThmExprNode};
+use hol_notation_tactics::ThmExpr;
 use hol_notation_terms::Quotation;
 use hol_terms::Term;
 use hol_types::Name;
 use std::alloc::{AllocError, Global};
 
-/// What the arguments come to, over a basis that contains those of the theorems that are cited by their names, and over which the readings stand, by the general theorems over
-/// no items.
+/// What the arguments come to, over a basis that contains those of the theorems that are cited by their names, and over which the readings stand.
 pub fn arguments_given(
     alloc: Global,
-    general: &Lemmas,
     written: WrittenArgs<'_>,
     cited: &[(Name, Thm)],
     readings: &Readings,
     basis: &Basis,
 ) -> Result<Result<TacArgs, Refusal>, AllocError>
-    requires general { general.now ≡ no_items }
     requires over { AreOver basis.now (readings_value readings.now) }
     requires within { AreWithin basis.now cited.now }
     ensures value { IfOk result (λ r. result_map args_value r ≡ arguments_given basis.now cited.now (readings_value readings.now) (written_value written.entry)) }
     ensures suits { IfOk result (λ r. IfOk r (λ args. IsTrue (suits (args_value args) basis.now))) }
 {
-    of_form(alloc, general, written, cited, readings, basis)
+    of_form(alloc, written, cited, readings, basis)
 }
 
 // They come to these arguments, or are refused.
@@ -50,13 +45,11 @@ type Arguments = Result<TacArgs, Refusal>;
 
 fn of_form(
     alloc: Global,
-    general: &Lemmas,
     written: WrittenArgs<'_>,
     cited: &[(Name, Thm)],
     readings: &Readings,
     basis: &Basis,
 ) -> Result<Arguments, AllocError>
-    requires general { general.now ≡ no_items }
     requires over { AreOver basis.now (readings_value readings.now) }
     requires within { AreWithin basis.now cited.now }
     ensures { IfOk result (λ r. result_map args_value r ≡ arguments_given basis.now cited.now (readings_value readings.now) (written_value written.entry)) }
@@ -69,16 +62,16 @@ fn of_form(
         },
         WrittenArgs::Pair(first, second) => pair_given(first, second, readings),
         WrittenArgs::Theorem(theorem) => {
-            match theorem_given(alloc, general, theorem, cited, readings, basis)? {
+            match theorem_given(alloc, theorem, cited, readings, basis)? {
                 Ok(th) => Ok(Ok(TacArgs::Theorem(th))),
                 Err(refusal) => Ok(Err(refusal)),
             }
         }
         WrittenArgs::TermAndTheorem(term, theorem) => {
-            with_theorem(alloc, general, term, theorem, cited, readings, basis)
+            with_theorem(alloc, term, theorem, cited, readings, basis)
         }
         WrittenArgs::Theorems(theorems) => {
-            match theorems_given(alloc, general, theorems, cited, readings, basis)? {
+            match theorems_given(alloc, theorems, cited, readings, basis)? {
                 Ok(ths) => Ok(Ok(TacArgs::Theorems(ths))),
                 Err(refusal) => Ok(Err(refusal)),
             }
@@ -105,14 +98,12 @@ fn pair_given(
 
 fn with_theorem(
     alloc: Global,
-    general: &Lemmas,
     term: &Quotation,
     theorem: &ThmExpr,
     cited: &[(Name, Thm)],
     readings: &Readings,
     basis: &Basis,
 ) -> Result<Arguments, AllocError>
-    requires general { general.now ≡ no_items }
     requires over { AreOver basis.now (readings_value readings.now) }
     requires within { AreWithin basis.now cited.now }
     ensures { IfOk result (λ r. result_map args_value r ≡ result_both TermAndTheorem (term_given (readings_value readings.now) term.now) (theorem_given basis.now cited.now (readings_value readings.now) theorem.now)) }
@@ -121,7 +112,7 @@ fn with_theorem(
         Ok(term) => term,
         Err(refusal) => return Ok(Err(refusal)),
     };
-    match theorem_given(alloc, general, theorem, cited, readings, basis)? {
+    match theorem_given(alloc, theorem, cited, readings, basis)? {
         Ok(th) => Ok(Ok(TacArgs::TermAndTheorem(term, th))),
         Err(refusal) => Ok(Err(refusal)),
     }
@@ -140,62 +131,36 @@ fn term_given(term: &Quotation, readings: &Readings) -> Result<Result<Term, Refu
 // The theorem that is written, as what is given.
 fn theorem_given(
     alloc: Global,
-    general: &Lemmas,
     theorem: &ThmExpr,
     cited: &[(Name, Thm)],
     readings: &Readings,
     basis: &Basis,
 ) -> Result<Result<Given, Refusal>, AllocError>
-    requires general { general.now ≡ no_items }
     requires over { AreOver basis.now (readings_value readings.now) }
     requires within { AreWithin basis.now cited.now }
     ensures { IfOk result (λ r. r ≡ theorem_given basis.now cited.now (readings_value readings.now) theorem.now) }
 {
-    match theorem_by(alloc, general, theorem, cited, readings, basis)? {
+    match theorem_written(alloc, theorem, cited, readings, basis)? {
         Ok(th) => Ok(Ok(Given::theorem(&th)?)),
         Err(refusal) => Ok(Err(refusal)),
     }
 }
 
-// The theorem that is written. The general theorems are taken to the basis only where a rule is applied.
-#[tactic(auto, using(crate::proofs::Applied::placed_is))]
-fn theorem_by(
-    alloc: Global,
-    general: &Lemmas,
-    theorem: &ThmExpr,
-    cited: &[(Name, Thm)],
-    readings: &Readings,
-    basis: &Basis,
-) -> Result<Result<Thm, Refusal>, AllocError>
-    requires general { general.now ≡ no_items }
-    requires over { AreOver basis.now (readings_value readings.now) }
-    requires within { AreWithin basis.now cited.now }
-    ensures { IfOk result (λ r. r ≡ placed basis.now (theorem_written cited.now (readings_value readings.now) theorem.now)) }
-{
-    if let ThmExprNode::Name(name) = theorem.node() {
-        return cited_theorem(alloc, name.as_str(), cited, basis);
-    }
-    let mut lemmas = general.widen(alloc, basis)?;
-    theorem_written(alloc, &mut lemmas, theorem, cited, readings, basis)
-}
-
 // The theorems that are written, each after those before it.
 fn theorems_given(
     alloc: Global,
-    general: &Lemmas,
     theorems: &[ThmExpr],
     cited: &[(Name, Thm)],
     readings: &Readings,
     basis: &Basis,
 ) -> Result<Result<Vec<Given>, Refusal>, AllocError>
-    requires general { general.now ≡ no_items }
     requires over { AreOver basis.now (readings_value readings.now) }
     requires within { AreWithin basis.now cited.now }
     ensures { IfOk result (λ r. result_map (λ ths. ths.items) r ≡ theorems_given basis.now cited.now (readings_value readings.now) theorems.now) }
 {
     let mut given = Vec::with_capacity(alloc, theorems.len())?;
     for theorem in theorems {
-        match theorem_given(alloc, general, theorem, cited, readings, basis)? {
+        match theorem_given(alloc, theorem, cited, readings, basis)? {
             Ok(th) => given.push(th)?,
             Err(refusal) => return Ok(Err(refusal)),
         }

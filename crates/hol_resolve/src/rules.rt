@@ -17,7 +17,7 @@ use crate::pairs::pairs_at;
 use crate::readings::Readings;
 use crate::refusal::Refusal;
 use crate::sizes::small;
-use hol_bool::{BoolError, Lemmas, conjunct1, conjunct2, mp, spec};
+use hol_bool::{BoolError, conjunct1, conjunct2, mp, spec};
 use hol_equal::{EqualError, sym};
 use hol_kernel::{Basis, KernelError, Thm};
 use hol_notation_tactics::TypePair;
@@ -77,14 +77,13 @@ pub(crate) fn by_refl(alloc: Global, basis: &Basis, t: Option<&Term>) -> Result<
 #[tactic(auto, using(crate::proofs::Applied::spec_gave, crate::proofs::Applied::spec_bad))]
 pub(crate) fn by_spec(
     alloc: Global,
-    lemmas: &mut Lemmas,
+    _basis: &Basis,
     t: Option<&Term>,
     part: Written,
 ) -> Result<Written, AllocError>
-    requires typed { IsTermOver lemmas.old (option_map (nameless []) (option_copied t)) }
-    requires placed { IsPlaced lemmas.old part }
-    ensures gives { IfOk result (λ r. r ≡ then_step rule.Spec (λ a. option_and_then (specialized a) (option_map (nameless []) (option_copied t.entry))) part) }
-    ensures kept { lemmas.new ≡ lemmas.old }
+    requires typed { IsTermOver _basis.now (option_map (nameless []) (option_copied t)) }
+    requires placed { IsPlaced _basis.now part }
+    ensures { IfOk result (λ r. r ≡ then_step rule.Spec (λ a. option_and_then (specialized a) (option_map (nameless []) (option_copied t.entry))) part) }
 {
     let th = match part {
         Ok(th) => th,
@@ -93,7 +92,7 @@ pub(crate) fn by_spec(
     let Some(t) = t else {
         return Ok(bad(ForwardRule::Spec));
     };
-    match spec(alloc, lemmas, t, &th) {
+    match spec(alloc, t, &th) {
         Ok(given) => Ok(small(given)),
         Err(BoolError::Refused(_)) => Ok(bad(ForwardRule::Spec)),
         Err(BoolError::Memory) => Err(AllocError),
@@ -118,20 +117,14 @@ pub(crate) fn by_sym(alloc: Global, part: Written) -> Result<Written, AllocError
 
 /// `CONJUNCT1`
 #[tactic(auto, using(crate::proofs::Applied::step_gave, crate::proofs::Applied::step_bad))]
-pub(crate) fn by_conjunct1(
-    alloc: Global,
-    lemmas: &mut Lemmas,
-    part: Written,
-) -> Result<Written, AllocError>
-    requires { IsPlaced lemmas.old part }
-    ensures gives { IfOk result (λ r. r ≡ then_step rule.Conjunct1 conjunct1_of part) }
-    ensures kept { lemmas.new ≡ lemmas.old }
+pub(crate) fn by_conjunct1(part: Written) -> Result<Written, AllocError>
+    ensures { IfOk result (λ r. r ≡ then_step rule.Conjunct1 conjunct1_of part) }
 {
     let th = match part {
         Ok(th) => th,
         Err(refusal) => return Ok(Err(refusal)),
     };
-    match conjunct1(alloc, lemmas, &th) {
+    match conjunct1(&th) {
         Ok(given) => Ok(small(given)),
         Err(BoolError::Refused(_)) => Ok(bad(ForwardRule::Conjunct1)),
         Err(BoolError::Memory) => Err(AllocError),
@@ -140,20 +133,14 @@ pub(crate) fn by_conjunct1(
 
 /// `CONJUNCT2`
 #[tactic(auto, using(crate::proofs::Applied::step_gave, crate::proofs::Applied::step_bad))]
-pub(crate) fn by_conjunct2(
-    alloc: Global,
-    lemmas: &mut Lemmas,
-    part: Written,
-) -> Result<Written, AllocError>
-    requires { IsPlaced lemmas.old part }
-    ensures gives { IfOk result (λ r. r ≡ then_step rule.Conjunct2 conjunct2_of part) }
-    ensures kept { lemmas.new ≡ lemmas.old }
+pub(crate) fn by_conjunct2(part: Written) -> Result<Written, AllocError>
+    ensures { IfOk result (λ r. r ≡ then_step rule.Conjunct2 conjunct2_of part) }
 {
     let th = match part {
         Ok(th) => th,
         Err(refusal) => return Ok(Err(refusal)),
     };
-    match conjunct2(alloc, lemmas, &th) {
+    match conjunct2(&th) {
         Ok(given) => Ok(small(given)),
         Err(BoolError::Refused(_)) => Ok(bad(ForwardRule::Conjunct2)),
         Err(BoolError::Memory) => Err(AllocError),
@@ -164,14 +151,13 @@ pub(crate) fn by_conjunct2(
 #[tactic(auto, using(crate::proofs::Applied::both_gave, crate::proofs::Applied::both_bad))]
 pub(crate) fn by_mp(
     alloc: Global,
-    lemmas: &mut Lemmas,
+    _basis: &Basis,
     implication: Written,
     premise: Written,
 ) -> Result<Written, AllocError>
-    requires first { IsPlaced lemmas.old implication }
-    requires second { IsPlaced lemmas.old premise }
-    ensures gives { IfOk result (λ r. r ≡ then_step_both rule.Mp mp_of implication premise) }
-    ensures kept { lemmas.new ≡ lemmas.old }
+    requires first { IsPlaced _basis.now implication }
+    requires second { IsPlaced _basis.now premise }
+    ensures { IfOk result (λ r. r ≡ then_step_both rule.Mp mp_of implication premise) }
 {
     let a = match implication {
         Ok(th) => th,
@@ -181,7 +167,7 @@ pub(crate) fn by_mp(
         Ok(th) => th,
         Err(refusal) => return Ok(Err(refusal)),
     };
-    match mp(alloc, lemmas, &a, &b) {
+    match mp(alloc, &a, &b) {
         Ok(given) => Ok(small(given)),
         Err(BoolError::Refused(_)) => Ok(bad(ForwardRule::Mp)),
         Err(BoolError::Memory) => Err(AllocError),

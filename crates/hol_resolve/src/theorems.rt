@@ -11,62 +11,54 @@ use crate::refusal::Refusal;
 use crate::rules::{
     Written, by_assume, by_conjunct1, by_conjunct2, by_inst_type, by_mp, by_refl, by_spec, by_sym,
 };
-use hol_bool::Lemmas;
 use hol_kernel::{Basis, Thm};
 use hol_notation_tactics::{ThmExpr, ThmExprNode};
 use hol_types::Name;
 use std::alloc::{AllocError, Global};
 
-/// What a theorem as it is written comes to over a basis that contains those of the theorems that are cited by their names, and over which the readings and the general
-/// theorems stand.
+/// What a theorem as it is written comes to over a basis that contains those of the theorems that are cited by their names, and over which the readings stand.
 ///
 /// Rules are applied innermost first, from left to right, and the first that is refused answers: by `UnknownTheorem` where nothing stands under a name, by `BadRule` where
 /// the rule does not apply, by `TooLarge` where what it gives has over 20,000 nodes, all terms counted.
 #[tactic(auto, using(crate::proofs::Applied::placed_is, crate::proofs::Applied::placed_step, crate::proofs::Applied::placed_both, crate::proofs::Over::term_over, crate::proofs::Over::term_over_these, crate::proofs::Applied::placed_over_these))]
 pub fn theorem_written(
     alloc: Global,
-    lemmas: &mut Lemmas,
     theorem: &ThmExpr,
     cited: &[(Name, Thm)],
     readings: &Readings,
     basis: &Basis,
 ) -> Result<Result<Thm, Refusal>, AllocError>
-    requires lemmas { lemmas.old ≡ basis.now }
     requires over { AreOver basis.now (readings_value readings.now) }
     requires within { AreWithin basis.now cited.now }
     ensures value { IfOk result (λ r. r ≡ placed basis.now (theorem_written cited.now (readings_value readings.now) theorem.now)) }
     ensures placed { IfOk result (IsPlaced basis.now) }
-    ensures kept { lemmas.new ≡ lemmas.old }
 {
     match theorem.node() {
         ThmExprNode::Name(name) => cited_theorem(alloc, name.as_str(), cited, basis),
         ThmExprNode::Assume(p) => by_assume(alloc, basis, readings.term_at(p.place)),
         ThmExprNode::Refl(t) => by_refl(alloc, basis, readings.term_at(t.place)),
         ThmExprNode::Spec(t, part) => {
-            let part = theorem_written(alloc, lemmas, part, cited, readings, basis)?;
-            by_spec(alloc, lemmas, readings.term_at(t.place), part)
+            let part = theorem_written(alloc, part, cited, readings, basis)?;
+            by_spec(alloc, basis, readings.term_at(t.place), part)
         }
         ThmExprNode::Sym(part) => {
-            by_sym(
-                alloc,
-                theorem_written(alloc, lemmas, part, cited, readings, basis)?,
-            )
+            by_sym(alloc, theorem_written(alloc, part, cited, readings, basis)?)
         }
         ThmExprNode::Conjunct1(part) => {
-            let part = theorem_written(alloc, lemmas, part, cited, readings, basis)?;
-            by_conjunct1(alloc, lemmas, part)
+            let part = theorem_written(alloc, part, cited, readings, basis)?;
+            by_conjunct1(part)
         }
         ThmExprNode::Conjunct2(part) => {
-            let part = theorem_written(alloc, lemmas, part, cited, readings, basis)?;
-            by_conjunct2(alloc, lemmas, part)
+            let part = theorem_written(alloc, part, cited, readings, basis)?;
+            by_conjunct2(part)
         }
         ThmExprNode::Mp(implication, premise) => {
-            let implication = theorem_written(alloc, lemmas, implication, cited, readings, basis)?;
-            let premise = theorem_written(alloc, lemmas, premise, cited, readings, basis)?;
-            by_mp(alloc, lemmas, implication, premise)
+            let implication = theorem_written(alloc, implication, cited, readings, basis)?;
+            let premise = theorem_written(alloc, premise, cited, readings, basis)?;
+            by_mp(alloc, basis, implication, premise)
         }
         ThmExprNode::InstType(pairs, part) => {
-            let part = theorem_written(alloc, lemmas, part, cited, readings, basis)?;
+            let part = theorem_written(alloc, part, cited, readings, basis)?;
             by_inst_type(alloc, basis, readings, pairs, part)
         }
     }

@@ -3,7 +3,6 @@ ghost use Rattle.std.specs.Prelude.{◌≡◌, [], reverse, IfOk};
 ghost use Rattle.hol_terms.specs.Nameless.{nameless};
 ghost use Rattle.hol_terms.specs.Alpha.{strip};
 ghost use Rattle.hol_formulas.specs.Equation.{bool_type};
-ghost use Rattle.hol_kernel.specs.Items.{no_items};
 ghost use Rattle.hol_kernel.specs.Sequent.{no_hyps};
 ghost use Rattle.hol_kernel.specs.Theorem.{theorem_over};
 ghost use Rattle.hol_kernel.specs.Typing.{HasType};
@@ -12,7 +11,6 @@ ghost use Rattle.hol_just.specs.Valid.{AchieveAll};
 ghost use Rattle.hol_stack.specs.Sound.{AreSound, AchievesNext};
 
 use crate::element::{Change, Earlier, Element};
-use hol_derived::Lemmas;
 use hol_equal::applied;
 use hol_goal::Goal;
 use hol_just::justify;
@@ -20,27 +18,23 @@ use hol_kernel::{Basis, Thm};
 use hol_terms::Term;
 use std::alloc::{AllocError, Global};
 
-/// The theorem of the goal, where no goal is open: theorems of the goals of each element, from the newest to the first. The general theorems are those over no
-/// items.
+/// The theorem of the goal, where no goal is open: theorems of the goals of each element, from the newest to the first.
 pub(crate) fn theorem(
     alloc: Global,
-    general: &Lemmas,
     goal: &Goal,
     earlier: &[Earlier],
     newest: &Element,
 ) -> Result<Thm, AllocError>
-    requires general { general.now ≡ no_items }
     requires closed { newest.now.goals ≡ [] }
     requires sound { AreSound goal.now newest.now (reverse earlier.now) }
     ensures { IfOk result (λ th. th ≡ theorem_over newest.now.basis no_hyps goal.now.conclusion) }
 {
     let basis = newest.basis();
-    let mut lemmas = general.widen(alloc, basis)?;
     let mut thms = Vec::new(alloc);
     let mut left = earlier.len();
     'back: while left > 0 {
         left -= 1;
-        thms = before(alloc, &earlier[left], thms, basis, &mut lemmas)?;
+        thms = before(alloc, &earlier[left], thms, basis)?;
     }
     let Some(thm) = thms.pop() else {
         unreachable!()
@@ -54,17 +48,14 @@ fn before(
     one: &Earlier,
     thms: Vec<Thm>,
     basis: &Basis,
-    lemmas: &mut Lemmas,
 ) -> Result<Vec<Thm>, AllocError>
-    requires lemmas { lemmas.old ≡ basis.now }
     requires over { AreOver basis.now thms.items }
     requires next { AchievesNext basis.now one.now (sequents thms.items) }
     ensures over { IfOk result (λ out. AreOver basis.now out.items) }
     ensures achieved { IfOk result (λ out. AchieveAll no_hyps (sequents out.items) one.now.step.goals) }
-    ensures kept { lemmas.new ≡ lemmas.old }
 {
     match &one.change {
-        Change::Left(step) => justify(alloc, step.just(), thms, basis, lemmas),
+        Change::Left(step) => justify(alloc, step.just(), thms, basis),
         Change::Turned(by) => {
             let mut thms = thms;
             thms.rotate_right(*by);

@@ -12,7 +12,6 @@ use crate::element::{Change, Earlier, Element};
 use crate::error::StackError;
 use crate::finishing::theorem;
 use crate::shared_step::SharedStep;
-use hol_derived::Lemmas;
 use hol_goal::Goal;
 use hol_kernel::{Basis, Thm};
 use std::alloc::{AllocError, Global};
@@ -166,23 +165,16 @@ impl Stack {
         self.follow(Change::Turned(by), element)
     }
 
-    /// The theorem of the goal that it was set to, on the newest element's basis (tactics.ml, top_thm), by the general theorems over no items.
+    /// The theorem of the goal that it was set to, on the newest element's basis (tactics.ml, top_thm).
     ///
     /// Refused by [`StackError::GoalsRemain`] where a goal is open.
-    pub fn finish(&self, alloc: Global, general: &Lemmas) -> Result<Thm, StackError>
-        requires { general.now ≡ no_items }
+    pub fn finish(&self, alloc: Global) -> Result<Thm, StackError>
         ensures { Finishes self.now result }
     {
         if !self.goals().is_empty() {
             return Err(StackError::GoalsRemain);
         }
-        Ok(theorem(
-            alloc,
-            general,
-            &self.goal,
-            self.earlier.as_slice(),
-            &self.newest,
-        )?)
+        Ok(theorem(alloc, &self.goal, self.earlier.as_slice(), &self.newest)?)
     }
 
     /// An equal stack.

@@ -19,7 +19,7 @@ ghost use Rattle.hol_steps.specs.Matching.{AreGeneral, IsGeneralized};
 
 use crate::choosing::all_terms_by;
 use crate::opening::Opened;
-use hol_derived::applied::generalize;
+use hol_derived::applied::for_each;
 use hol_formulas::mk_forall;
 use hol_goal::Goal;
 use hol_kernel::{Given, GivenNode, Thm};
@@ -90,7 +90,7 @@ fn generalized_theorem(alloc: Global, th: &Thm, variables: &[Variable]) -> Resul
     let mut whole = th.copy()?;
     let mut left = variables;
     'variables: while let Some((v, outer)) = left.split_last() {
-        let next = generalize(alloc, v, &whole);
+        let next = for_each(alloc, v, &whole);
         drop(whole);
         whole = next?;
         left = outer;

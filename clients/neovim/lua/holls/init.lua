@@ -8,13 +8,14 @@ local M = {}
 local here = vim.fn.fnamemodify(debug.getinfo(1, 'S').source:sub(2), ':p:h:h:h:h')
 local settings = vim.g.holls or {}
 local client_id = nil
-local goals = { buffer = nil, asked = 0, answered = 0 }
+local goals = { buffer = nil, asked = 0, answered = 0, plain = false }
 local patience = 300 -- So many milliseconds the goals at the cursor may take before the window says that they aren't known yet.
 local unknown = vim.api.nvim_create_namespace('holls_unknown')
 
 local symbols = {
   forall = '∀', exists = '∃', unique = '∃!', lambda = 'λ', select = 'ε', ['and'] = '∧', ['or'] = '∨', ['not'] = '¬',
-  implies = '⇒', iff = '⇔', to = '→',
+  implies = '⇒', iff = '⇔', to = '→', ['in'] = '∈', union = '∪', inter = '∩', diff = '∖', subset = '⊆', psubset = '⊂', empty = '∅', leq = '≤',
+  geq = '≥', times = '×', circ = '∘',
 }
 
 local function client()
@@ -60,7 +61,8 @@ function M.update()
   client().request('proof/goals', position(), function(failure, result)
     if number == goals.asked then
       goals.answered = number
-      show(failure and ('no answer: ' .. (failure.message or '')) or result and result.text or '')
+      local text = result and (goals.plain and result.plain or result.text) or ''
+      show(failure and ('no answer: ' .. (failure.message or '')) or text)
     end
   end, 0)
 end
@@ -112,6 +114,12 @@ function M.toggle()
   end
   vim.api.nvim_win_set_width(0, math.floor(vim.o.columns * 2 / 5))
   vim.api.nvim_set_current_win(from)
+  M.update()
+end
+
+-- Shows the goals as the program says them, or again in the notation of the file.
+function M.plain()
+  goals.plain = not goals.plain
   M.update()
 end
 
@@ -198,6 +206,7 @@ local function keys()
     vim.keymap.set('n', key, work, { buffer = true, silent = true, desc = what })
   end
   map('<LocalLeader>g', M.toggle, 'goal window')
+  map('<LocalLeader>p', M.plain, 'goals in plain text, or in notation')
   map('K', vim.lsp.buf.hover, 'goals after the command')
   map('gd', vim.lsp.buf.definition, 'where the name is made')
   map('gr', vim.lsp.buf.references, 'where the name is used')
@@ -213,7 +222,7 @@ end
 function M.detach()
   local buffer = vim.api.nvim_get_current_buf()
   pcall(vim.api.nvim_del_augroup_by_name, 'holls_' .. buffer)
-  for _, name in ipairs({ 'HolGoals', 'HolRestart' }) do
+  for _, name in ipairs({ 'HolGoals', 'HolPlain', 'HolRestart' }) do
     pcall(vim.api.nvim_buf_del_user_command, buffer, name)
   end
   vim.api.nvim_buf_clear_namespace(buffer, unknown, 0, -1)
@@ -234,7 +243,7 @@ function M.attach()
     return
   end
   vim.lsp.buf_attach_client(buffer, client_id)
-  vim.diagnostic.config({ update_in_insert = true, severity_sort = true }, vim.lsp.diagnostic.get_namespace(client_id))
+  vim.diagnostic.config({ update_in_insert = true, severity_sort = true, virtual_text = true }, vim.lsp.diagnostic.get_namespace(client_id))
   vim.bo[buffer].omnifunc = 'v:lua.vim.lsp.omnifunc'
   if vim.o.completeopt == 'menu,preview' then -- Neovim's default, which opens a window at each completion.
     vim.o.completeopt = 'menu,menuone'
@@ -248,6 +257,7 @@ function M.attach()
   vim.api.nvim_create_autocmd('QuitPre', { group = group, buffer = buffer, callback = close_with_last })
   vim.api.nvim_create_autocmd({ 'CursorHold', 'BufEnter', 'WinScrolled' }, { group = group, buffer = buffer, callback = M.tell_view })
   vim.api.nvim_buf_create_user_command(buffer, 'HolGoals', M.toggle, {})
+  vim.api.nvim_buf_create_user_command(buffer, 'HolPlain', M.plain, {})
   -- Of all buffers, so that one may search again from the list of what was found.
   vim.api.nvim_create_user_command('HolSearch', function(given) M.search(given.args, given.bang) end, { nargs = '+', bang = true })
   vim.api.nvim_buf_create_user_command(buffer, 'HolRestart', function()

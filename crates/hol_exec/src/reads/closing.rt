@@ -1,14 +1,12 @@
 //! What the end of a proof reads of it.
 ghost use Rattle.std.specs.Prelude.{◌≡◌, ◌↔◌, [], IsTrue, IfOk, Some};
 ghost use Rattle.hol_terms.specs.Nameless.{nameless};
-ghost use Rattle.hol_kernel.specs.Items.{no_items};
 ghost use Rattle.hol_kernel.specs.Sequent.{no_hyps};
 ghost use Rattle.hol_kernel.specs.Theorem.{theorem_over};
 ghost use Rattle.hol_exec.specs.ReadsValue.{ClosingValue, closing_of};
 
 use crate::reads::same::Same;
 use crate::state::Proof;
-use hol_derived::Lemmas;
 use hol_kernel::{Basis, Thm};
 use hol_stack::{Stack, StackError};
 use hol_terms::Term;
@@ -94,14 +92,13 @@ impl Closing {
         self.stack.goals().len()
     }
 
-    /// The theorem of the statement, without hypotheses, on the proof's basis, by the general theorems over no items.
+    /// The theorem of the statement, without hypotheses, on the proof's basis.
     #[tactic(auto, using(crate::proofs::Steps::none_open))]
-    pub(crate) fn theorem(&self, alloc: Global, general: &Lemmas) -> Result<Thm, AllocError>
-        requires general { general.now ≡ no_items }
-        requires closed { self.now.open_goals ≡ 0 }
+    pub(crate) fn theorem(&self, alloc: Global) -> Result<Thm, AllocError>
+        requires { self.now.open_goals ≡ 0 }
         ensures { IfOk result (λ th. th ≡ theorem_over self.now.basis no_hyps self.now.statement) }
     {
-        match self.stack.finish(alloc, general) {
+        match self.stack.finish(alloc) {
             Ok(theorem) => Ok(theorem),
             Err(StackError::Memory) => Err(AllocError),
             Err(StackError::NothingToUndo) => unreachable!(),

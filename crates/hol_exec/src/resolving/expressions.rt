@@ -23,7 +23,6 @@ use crate::resolving::callee::{Callee, called};
 use crate::resolving::looks_up::LooksUp;
 use crate::resolving::unresolved::Unresolved;
 use hol_combine::{Expr, ExprNode, Formula, Handing, TacCall, TheoremTac};
-use hol_derived::Lemmas;
 use hol_goal::TacArgs;
 use hol_kernel::{Basis, Thm};
 use hol_notation_tactics as written;
@@ -45,8 +44,6 @@ pub(crate) struct Context<'a> {
     pub(crate) readings: &'a Readings,
     /// The basis of all that is resolved.
     pub(crate) basis: &'a Basis,
-    /// The general theorems of the rules, over no items.
-    pub(crate) lemmas: &'a Lemmas,
 }
 
 /// Resolves an expression.
@@ -360,7 +357,6 @@ fn arguments(
 {
     match arguments_given(
         alloc,
-        context.lemmas,
         written,
         context.theorems,
         context.readings,

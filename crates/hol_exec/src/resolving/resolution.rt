@@ -163,7 +163,6 @@ fn resolve_all(
         theorems: &theorems,
         readings: &readings,
         basis: &basis,
-        lemmas: setup.lemmas(),
     };
     match resolve_expr(alloc, setup, &context, tactic) {
         Ok(expr) => Ok(Resolution::Resolved(expr, basis, readings)),

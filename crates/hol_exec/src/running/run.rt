@@ -263,7 +263,7 @@ fn finished(alloc: Global, setup: &Setup, closing: &Closing) -> Result<Outcome, 
     requires { closing.now.open_goals ≡ 0 }
     ensures { IfOk result (λ outcome. outcome ≡ finished closing.now) }
 {
-    let theorem = closing.theorem(alloc, setup.lemmas())?;
+    let theorem = closing.theorem(alloc)?;
     theorem.promise();
     let key = Key::new(alloc, Kind::Theorem, closing.name())?;
     let mut entries = Vec::new(alloc);

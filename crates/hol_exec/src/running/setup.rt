@@ -6,7 +6,6 @@ ghost use Rattle.hol_formulas.specs.Constants.{prelude_types, prelude_constants}
 
 use crate::running::registered::RegisteredTac;
 use crate::running::setup_table::SetupTable;
-use hol_derived::Lemmas;
 use hol_kernel::{Thm, prelude_constants, prelude_types};
 use hol_prelude::Prelude;
 use hol_registry::Registry;
@@ -29,7 +28,6 @@ pub struct Setup {
 impl Setup {
     ghost use Rattle.std.specs.Prelude.{◌≡◌, IfOk, MatchOption, Some, None};
     ghost use Rattle.std.specs.Option.{option_map};
-    ghost use Rattle.hol_kernel.specs.Items.{no_items};
     ghost use Rattle.hol_prelude.specs.Statements.{prelude_theorem};
     ghost use Rattle.hol_registry.specs.RegistryView.{table};
     ghost use Rattle.hol_resolve.specs.SignatureView.{signature_value};
@@ -73,13 +71,6 @@ impl Setup {
         ensures { MatchOption result (prelude_theorem name.now ≡ None) (λ th. prelude_theorem name.now ≡ Some th.now) }
     {
         self.prelude.get(name)
-    }
-
-    /// The general theorems of the rules, over no items.
-    pub(crate) fn lemmas(&self) -> &Lemmas
-        ensures { result.now ≡ no_items }
-    {
-        self.prelude.lemmas()
     }
 
     /// What the prelude has for readings.

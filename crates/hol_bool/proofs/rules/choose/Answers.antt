@@ -1,22 +1,16 @@
 use Rattle.std.specs.FinSet as set
 use Rattle.hol_bool.proofs.DisjunctionRules.{choose_gives, existential_is, fresh}
-use Rattle.hol_derived.proofs.Typed.{domain_stands, predicate_typed}
 use Rattle.hol_derived.specs.Applied.{chosen}
 use Rattle.hol_bool.specs.Rules.{choose_left, choose_of}
 use Rattle.hol_derived.proofs.Instances.{applies_by, over_basis}
 use Rattle.hol_formulas.proofs.TypeTests.{same_type}
-use Rattle.hol_formulas.specs.Equation.{bool_type}
 use Rattle.hol_formulas.specs.Formula.{Abstraction, dest_exists, existential}
-use Rattle.hol_kernel.specs.Items.{Items}
-use Rattle.hol_kernel.specs.Typing.{HasType, is_type}
 use Rattle.hol_subst.specs.Variant.{is_free_in}
 use Rattle.hol_terms.specs.Named.{Named, var}
-use Rattle.hol_terms.specs.Nameless.{Nameless, base_of, free_occurrences, lam, nameless}
+use Rattle.hol_terms.specs.Nameless.{base_of, free_occurrences, lam, nameless}
 use Rattle.hol_terms.specs.Scoped.{binds}
 use Rattle.hol_types.specs.Equal.{type_eq}
-use Rattle.hol_types.specs.Fun.{fun_type}
-use Rattle.hol_types.specs.Tree.{TypeTree}
-use Rattle.std.proofs.Common.{Some, [], ap, codes, false, rules, subst, sym, true, ◌∙◌, ◌∷◌, ◌≡◌}
+use Rattle.std.proofs.Common.{Some, [], ap, false, rules, sym, true, ◌∙◌, ◌∷◌, ◌≡◌}
 use Rattle.hol_bool.proofs.rules.choose.Goals as goal
 
 pub is_free_in_left-requires : goal.is_free_in_left-requires
@@ -31,8 +25,7 @@ is_free_in_left-requires c =
     let whole : s.concl ≡ existential x = existential_is s.concl x found_is in
     let tested : type_eq v.1 w.1 ≡ true = search rules in
     let domain : v.1 ≡ w.1 = same_type v.1 w.1 tested in
-    let function : HasType B own (fun_type v.1 bool_type) = subst (λ (d : TypeTree). HasType B own (fun_type d bool_type)) (sym domain) (predicate_typed B (codes "?") w.1 bool_type own (subst (λ (u : Nameless). HasType B u bool_type) whole c.well_typed.ensures.conclusion)) in
-    record { over = c.requires.over ∙ c.requires.one_basis; function = subst (λ (k : Items). HasType k own (fun_type v.1 bool_type)) c.requires.one_basis function; stands = subst (λ (k : Items). is_type k v.1 ≡ true) c.requires.one_basis (domain_stands B v.1 bool_type own function) }
+    record { fits = domain }
 
 pub choose-requires : goal.choose-requires
 choose-requires c =
@@ -49,10 +42,10 @@ choose-requires c =
     let beside : binds (free_occurrences b.concl) v ≡ false = search rules in
     let rest : is_free_in (set.items (choose_left v b.hyps x)) v ≡ false = search rules in
     let none_free = fresh v s b x found_is outside beside rest in
-    record { one_basis = c.in_ok-is_free_in_left.ensures.kept ∙ c.requires.over; same_basis = c.requires.one_basis; applies = applies_by B (choose_of c.args.v.now s b) (chosen v s b) (ap (λ (u : Named). choose_of u s b) is ∙ choose_gives v s b x found_is tested none_free) }
+    record { same_basis = c.requires.one_basis; applies = applies_by B (choose_of c.args.v.now s b) (chosen v s b) (ap (λ (u : Named). choose_of u s b) is ∙ choose_gives v s b x found_is tested none_free) }
 
 pub returns-clause-sequent : goal.returns-clause-sequent
-returns-clause-sequent c = c.in_ok-choose.ensures.gives
+returns-clause-sequent c = c.in_ok-choose.ensures
 
 pub returns-clause-basis : goal.returns-clause-basis
 returns-clause-basis c =
@@ -60,4 +53,4 @@ returns-clause-basis c =
     let s = c.args.a.now.sequent in
     let b = c.args.b.now.sequent in
     let v = c.in-Var.variable in
-    over_basis B (choose_of c.args.v.now s b) c.in_ok-choose.field-0 c.in_ok-choose.ensures.gives
+    over_basis B (choose_of c.args.v.now s b) c.in_ok-choose.field-0 c.in_ok-choose.ensures

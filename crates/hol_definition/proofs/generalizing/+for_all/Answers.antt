@@ -23,14 +23,14 @@ for_all-requires t c = (
       (ap (nameless []) (sym (rw c.in-Abs.is at c.node.ensures))) c.in-Some-dest_fun.ensures c.in_ok-own-in-Abs.ensures c.in_ok-applied-in-Abs.applied c.in_ok-applied-in-Abs.ensures,
 )
 
-pub generalize-requires-clause-stands : goal.generalize-requires-clause-stands
-generalize-requires-clause-stands t c =
+pub for_each-requires-clause-stands : goal.for_each-requires-clause-stands
+for_each-requires-clause-stands t c =
     type_stands_inside c.args.a c.requires (nameless [] c.concl.result.now) _ _ _ c.concl.ensures.concl _ _ _ c.in-Some.ensures.sides c.well_typed.ensures.conclusion c.in-Abs.v c.in_ok-own-in-Abs.own
     (ap (nameless []) (sym (rw c.in-Abs.is at c.node.ensures))) c.in-Some-dest_fun.ensures c.in_ok-own-in-Abs.ensures c.in_ok-applied-in-Abs.applied c.in_ok-inner-in-Abs.inner
     (c.args.variables - 1) c.in_ok-applied-in-Abs.ensures c.in_ok-inner-in-Abs.ensures
 
-pub generalize-requires-clause-absent : goal.generalize-requires-clause-absent
-generalize-requires-clause-absent t c =
+pub for_each-requires-clause-absent : goal.for_each-requires-clause-absent
+for_each-requires-clause-absent t c =
     free_in_none c.args.a c.requires (nameless [] c.concl.result.now) _ _ _ c.concl.ensures.concl _ _ _ c.in-Some.ensures.sides c.well_typed.ensures.conclusion c.in-Abs.v c.in_ok-own-in-Abs.own
     (ap (nameless []) (sym (rw c.in-Abs.is at c.node.ensures))) c.in-Some-dest_fun.ensures c.in_ok-own-in-Abs.ensures c.in_ok-applied-in-Abs.applied c.in_ok-inner-in-Abs.inner
     (c.args.variables - 1) c.in_ok-applied-in-Abs.ensures c.in_ok-inner-in-Abs.ensures
@@ -40,4 +40,4 @@ returns-in_ok-inner-in-Abs t c =
     let more : c.args.variables ≡ suc (c.args.variables - 1) = omega (arith, c.if-variables-eq0.false) in
     quantified c.args.a c.requires (nameless [] c.concl.result.now) _ _ _ c.concl.ensures.concl _ _ _ c.in-Some.ensures.sides c.well_typed.ensures.conclusion c.in-Abs.v c.in_ok-own-in-Abs.own
     (ap (nameless []) (sym (rw c.in-Abs.is at c.node.ensures))) c.in-Some-dest_fun.ensures c.in_ok-own-in-Abs.ensures c.in_ok-applied-in-Abs.applied c.in_ok-inner-in-Abs.inner
-    (c.args.variables - 1) c.in_ok-applied-in-Abs.ensures c.in_ok-inner-in-Abs.ensures c.generalize.result c.args.variables more c.generalize.ensures
+    (c.args.variables - 1) c.in_ok-applied-in-Abs.ensures c.in_ok-inner-in-Abs.ensures c.for_each.result c.args.variables more c.for_each.ensures

@@ -3,8 +3,8 @@ use Rattle.hol_terms.specs.Named.{term_nodes}
 use Rattle.hol_formulas.specs.Written.{written_term}
 use Rattle.hol_formulas.proofs.written.+made.Given as goal
 
-abbrev pub decreases-make : goal.decreases-make
-decreases-make l = 2 * term_nodes (written_term l.written.now)
+abbrev pub decreases-written_term : goal.decreases-written_term
+decreases-written_term l = 2 * term_nodes (written_term l.written.now)
 
 abbrev pub decreases-make_application : goal.decreases-make_application
 decreases-make_application l = 2 * (term_nodes (written_term l.f.now) + term_nodes (written_term l.x.now)) + 1

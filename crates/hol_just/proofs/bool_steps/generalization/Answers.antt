@@ -1,4 +1,3 @@
-use Rattle.std.proofs.Common.{sym, ◌∙◌}
 use Rattle.hol_derived.specs.Rules.{gen_of}
 use Rattle.hol_just.proofs.Applied.{from_one_taken, is_first, where_ok, one_applies}
 use Rattle.hol_just.proofs.bool_steps.generalization.Goals as goal
@@ -6,14 +5,13 @@ use Rattle.hol_just.proofs.bool_steps.generalization.Goals as goal
 pub generalize-made-requires : goal.generalize-made-requires
 generalize-made-requires c =
     record {
-      one_basis = c.requires.lemmas ∙ sym ((is_first c.args.thms.now c.take.new.self c.take.result c.in-Some.property c.take.ensures c.in-Some.is).over);
-      applies = one_applies (λ basis. gen_of basis c.args.v.now) c.args.thms.now c.take.new.self c.in-Some.property (is_first c.args.thms.now c.take.new.self c.take.result c.in-Some.property c.take.ensures c.in-Some.is) c.requires.gives;
+      applies = one_applies (λ basis. gen_of basis c.args.v.now) c.args.thms.now c.take.new.self c.in-Some.property (is_first c.args.thms.now c.take.new.self c.take.result c.in-Some.property c.take.ensures c.in-Some.is) c.requires;
     }
 
-pub returns-clause-infers : goal.returns-clause-infers
-returns-clause-infers c =
+pub returns : goal.returns
+returns c =
     where_ok c.put.result
     (from_one_taken (λ basis. gen_of basis c.args.v.now) c.args.thms.now c.take.new.self c.put.new.self c.in-Some.property c.in_ok-thm.thm
     (is_first c.args.thms.now c.take.new.self c.take.result c.in-Some.property c.take.ensures c.in-Some.is)
-    c.in_ok-thm.ensures.gives)
+    c.in_ok-thm.ensures)
     c.put.ensures

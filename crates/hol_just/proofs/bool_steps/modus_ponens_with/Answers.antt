@@ -6,14 +6,13 @@ use Rattle.hol_just.proofs.bool_steps.modus_ponens_with.Goals as goal
 pub mp-made-requires : goal.mp-made-requires
 mp-made-requires c =
     record {
-      one_basis = c.requires.lemmas ∙ sym c.requires.over;
       same_basis = c.requires.over ∙ sym ((is_first c.args.thms.now c.take.new.self c.take.result c.in-Some.premise c.take.ensures c.in-Some.is).over);
       applies = second_applies (mp_of c.args.implication.sequent) c.args.implication.basis c.args.thms.now c.take.new.self c.in-Some.premise (is_first c.args.thms.now c.take.new.self c.take.result c.in-Some.premise c.take.ensures c.in-Some.is) c.requires.gives;
     }
 
-pub returns-clause-infers : goal.returns-clause-infers
-returns-clause-infers c =
+pub returns : goal.returns
+returns c =
     where_ok c.put.result
     (second_taken (mp_of c.args.implication.sequent) c.args.implication.basis c.args.thms.now c.take.new.self c.put.new.self c.in-Some.premise c.in_ok-thm.thm (is_first c.args.thms.now c.take.new.self c.take.result c.in-Some.premise c.take.ensures c.in-Some.is)
-    c.in_ok-thm.ensures.gives)
+    c.in_ok-thm.ensures)
     c.put.ensures

@@ -6,19 +6,16 @@ use Rattle.hol_just.proofs.conversion_steps.conversion.Goals as goal
 
 pub converted_back-made-requires : goal.converted_back-made-requires
 converted_back-made-requires c =
-    record {
-      lemmas = c.requires.lemmas ∙ sym ((is_first c.args.thms.now c.take.new.self c.take.result c.in-Some.converted c.take.ensures c.in-Some.is).over);
-      gives = one_applies (λ basis. converted_back basis c.args.trace.now) c.args.thms.now c.take.new.self c.in-Some.converted (is_first c.args.thms.now c.take.new.self c.take.result c.in-Some.converted c.take.ensures c.in-Some.is) c.requires.gives;
-    }
+    one_applies (λ basis. converted_back basis c.args.trace.now) c.args.thms.now c.take.new.self c.in-Some.converted (is_first c.args.thms.now c.take.new.self c.take.result c.in-Some.converted c.take.ensures c.in-Some.is) c.requires
 
 pub put-requires : goal.put-requires
 put-requires c =
     let first = is_first c.args.thms.now c.take.new.self c.take.result c.in-Some.converted c.take.ensures c.in-Some.is in
-    over_basis c.in-Some.converted.basis (converted_back c.in-Some.converted.basis c.args.trace.now c.in-Some.converted.sequent) c.in_ok-thm.thm c.in_ok-thm.ensures.gives ∙ first.over ∙ sym first.basis
+    over_basis c.in-Some.converted.basis (converted_back c.in-Some.converted.basis c.args.trace.now c.in-Some.converted.sequent) c.in_ok-thm.thm c.in_ok-thm.ensures ∙ first.over ∙ sym first.basis
 
-pub returns-clause-infers : goal.returns-clause-infers
-returns-clause-infers c =
+pub returns : goal.returns
+returns c =
     where_ok c.put.result
     (from_one_taken (λ basis. converted_back basis c.args.trace.now) c.args.thms.now c.take.new.self c.put.new.self c.in-Some.converted c.in_ok-thm.thm
-    (is_first c.args.thms.now c.take.new.self c.take.result c.in-Some.converted c.take.ensures c.in-Some.is) c.in_ok-thm.ensures.gives)
+    (is_first c.args.thms.now c.take.new.self c.take.result c.in-Some.converted c.take.ensures c.in-Some.is) c.in_ok-thm.ensures)
     c.put.ensures

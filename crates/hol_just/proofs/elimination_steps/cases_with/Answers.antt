@@ -11,14 +11,9 @@ cases_of-requires-clause-over c =
 pub cases_of-requires-clause-also : goal.cases_of-requires-clause-also
 cases_of-requires-clause-also c = first_over (disj_cases_of c.args.either.sequent) c.args.thms.now c.take.new.self c.in-Some.left (is_first c.args.thms.now c.take.new.self c.take.result c.in-Some.left c.take.ensures c.in-Some.is)
 
-pub cases_of-requires-clause-lemmas : goal.cases_of-requires-clause-lemmas
-cases_of-requires-clause-lemmas c =
-    let first = (is_first c.args.thms.now c.take.new.self c.take.result c.in-Some.left c.take.ensures c.in-Some.is) in
-    c.requires.lemmas ∙ sym first.basis
-
 pub cases_of-requires-clause-gives : goal.cases_of-requires-clause-gives
 cases_of-requires-clause-gives c = first_applies (disj_cases_of c.args.either.sequent) c.args.thms.now c.take.new.self c.in-Some.left (is_first c.args.thms.now c.take.new.self c.take.result c.in-Some.left c.take.ensures c.in-Some.is) c.requires.gives
 
-pub returns-clause-infers : goal.returns-clause-infers
-returns-clause-infers c =
-    where_ok c.cases_of.result (first_infers (disj_cases_of c.args.either.sequent) c.args.thms.now c.take.new.self c.in-Some.left (is_first c.args.thms.now c.take.new.self c.take.result c.in-Some.left c.take.ensures c.in-Some.is) c.cases_of.new.thms) c.cases_of.ensures.infers
+pub returns : goal.returns
+returns c =
+    where_ok c.cases_of.result (first_infers (disj_cases_of c.args.either.sequent) c.args.thms.now c.take.new.self c.in-Some.left (is_first c.args.thms.now c.take.new.self c.take.result c.in-Some.left c.take.ensures c.in-Some.is) c.cases_of.new.thms) c.cases_of.ensures

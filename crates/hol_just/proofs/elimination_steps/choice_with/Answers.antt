@@ -6,14 +6,13 @@ use Rattle.hol_just.proofs.elimination_steps.choice_with.Goals as goal
 pub choose-made-requires : goal.choose-made-requires
 choose-made-requires c =
     record {
-      one_basis = c.requires.lemmas ∙ sym c.requires.over;
       same_basis = c.requires.over ∙ sym ((is_first c.args.thms.now c.take.new.self c.take.result c.in-Some.chosen c.take.ensures c.in-Some.is).over);
       applies = second_applies (choose_of c.args.v.now c.args.existence.sequent) c.args.existence.basis c.args.thms.now c.take.new.self c.in-Some.chosen (is_first c.args.thms.now c.take.new.self c.take.result c.in-Some.chosen c.take.ensures c.in-Some.is) c.requires.gives;
     }
 
-pub returns-clause-infers : goal.returns-clause-infers
-returns-clause-infers c =
+pub returns : goal.returns
+returns c =
     where_ok c.put.result
     (second_taken (choose_of c.args.v.now c.args.existence.sequent) c.args.existence.basis c.args.thms.now c.take.new.self c.put.new.self c.in-Some.chosen c.in_ok-thm.thm (is_first c.args.thms.now c.take.new.self c.take.result c.in-Some.chosen c.take.ensures c.in-Some.is)
-    c.in_ok-thm.ensures.gives)
+    c.in_ok-thm.ensures)
     c.put.ensures

@@ -1,4 +1,3 @@
-use Rattle.std.proofs.Common.{sym, ◌∙◌}
 use Rattle.hol_derived.specs.Rules.{conjunct2_of}
 use Rattle.hol_just.proofs.Applied.{from_one_taken, is_first, where_ok, one_applies}
 use Rattle.hol_just.proofs.elimination_steps.right_conjunct.Goals as goal
@@ -6,14 +5,13 @@ use Rattle.hol_just.proofs.elimination_steps.right_conjunct.Goals as goal
 pub conjunct2-made-requires : goal.conjunct2-made-requires
 conjunct2-made-requires c =
     record {
-      one_basis = c.requires.lemmas ∙ sym ((is_first c.args.thms.now c.take.new.self c.take.result c.in-Some.both c.take.ensures c.in-Some.is).over);
-      applies = one_applies (λ basis. conjunct2_of) c.args.thms.now c.take.new.self c.in-Some.both (is_first c.args.thms.now c.take.new.self c.take.result c.in-Some.both c.take.ensures c.in-Some.is) c.requires.gives;
+      applies = one_applies (λ basis. conjunct2_of) c.args.thms.now c.take.new.self c.in-Some.both (is_first c.args.thms.now c.take.new.self c.take.result c.in-Some.both c.take.ensures c.in-Some.is) c.requires;
     }
 
-pub returns-clause-infers : goal.returns-clause-infers
-returns-clause-infers c =
+pub returns : goal.returns
+returns c =
     where_ok c.put.result
     (from_one_taken (λ basis. conjunct2_of) c.args.thms.now c.take.new.self c.put.new.self c.in-Some.both c.in_ok-thm.thm
     (is_first c.args.thms.now c.take.new.self c.take.result c.in-Some.both c.take.ensures c.in-Some.is)
-    c.in_ok-thm.ensures.gives)
+    c.in_ok-thm.ensures)
     c.put.ensures

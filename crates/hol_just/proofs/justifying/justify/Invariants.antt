@@ -7,7 +7,6 @@ abbrev pub invariant-moves : goal.invariant-moves
 invariant-moves l = record {
   so_far : gives l.basis (drop l.left l.just) (sequents l.fn.thms.items) ≡ Some (l.cursor.before ++ l.cursor.after);
   over : l.cursor.basis ≡ l.basis;
-  lemmas : l.lemmas ≡ l.basis;
   moves : l.moves ≡ l.just;
   within : l.left ≤ length l.just;
 }

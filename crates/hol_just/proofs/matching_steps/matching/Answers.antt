@@ -25,10 +25,7 @@ specialized-requires c =
     let made = subst (λ (b : Items). given_over b given ≡ Some whole) c.basis.ensures (gave in_kernel rule.Assume (given_over c.basis.result.now given) c.over.result whole c.over.ensures.sequent c.in_ok-whole.ensures) in
     let over_it : whole.basis ≡ c.args.thms.now.basis =
     subst (λ (r : Result Theorem KernelError). IfOk r (λ th. th.basis ≡ c.basis.result.now)) c.in_ok-whole.ensures c.over.ensures.basis ∙ c.basis.ensures in
-    record {
-      lemmas = c.requires.lemmas ∙ sym over_it;
-      applies = specialized_applies c.args.thms.now given (bound_variables c.args.formula.now) (nameless [] c.args.t.now) c.requires.gives whole made over_it;
-    }
+    specialized_applies c.args.thms.now given (bound_variables c.args.formula.now) (nameless [] c.args.t.now) c.requires.gives whole made over_it
 
 pub instance_like-made-requires : goal.instance_like-made-requires
 instance_like-made-requires c =
@@ -37,7 +34,7 @@ instance_like-made-requires c =
     let made = subst (λ (b : Items). given_over b given ≡ Some whole) c.basis.ensures (gave in_kernel rule.Assume (given_over c.basis.result.now given) c.over.result whole c.over.ensures.sequent c.in_ok-whole.ensures) in
     let over_it : whole.basis ≡ c.args.thms.now.basis =
     subst (λ (r : Result Theorem KernelError). IfOk r (λ th. th.basis ≡ c.basis.result.now)) c.in_ok-whole.ensures c.over.ensures.basis ∙ c.basis.ensures in
-    like_applies c.args.thms.now given (bound_variables c.args.formula.now) (nameless [] c.args.t.now) c.requires.gives whole made over_it c.in_ok-body.body c.in_ok-body.ensures.gives
+    like_applies c.args.thms.now given (bound_variables c.args.formula.now) (nameless [] c.args.t.now) c.requires.gives whole made over_it c.in_ok-body.body c.in_ok-body.ensures
 
 pub put-requires : goal.put-requires
 put-requires c =
@@ -46,15 +43,15 @@ put-requires c =
     let made = subst (λ (b : Items). given_over b given ≡ Some whole) c.basis.ensures (gave in_kernel rule.Assume (given_over c.basis.result.now given) c.over.result whole c.over.ensures.sequent c.in_ok-whole.ensures) in
     let over_it : whole.basis ≡ c.args.thms.now.basis =
     subst (λ (r : Result Theorem KernelError). IfOk r (λ th. th.basis ≡ c.basis.result.now)) c.in_ok-whole.ensures c.over.ensures.basis ∙ c.basis.ensures in
-    thm_over c.args.thms.now given (bound_variables c.args.formula.now) (nameless [] c.args.t.now) c.requires.gives whole made over_it c.in_ok-body.body c.in_ok-body.ensures.gives c.in_ok-thm.thm c.in_ok-thm.ensures
+    thm_over c.args.thms.now given (bound_variables c.args.formula.now) (nameless [] c.args.t.now) c.requires.gives whole made over_it c.in_ok-body.body c.in_ok-body.ensures c.in_ok-thm.thm c.in_ok-thm.ensures
 
-pub returns-clause-infers : goal.returns-clause-infers
-returns-clause-infers c =
+pub returns : goal.returns
+returns c =
     let given = c.args.given.now in
     let whole = c.in_ok-whole.whole in
     let made = subst (λ (b : Items). given_over b given ≡ Some whole) c.basis.ensures (gave in_kernel rule.Assume (given_over c.basis.result.now given) c.over.result whole c.over.ensures.sequent c.in_ok-whole.ensures) in
     let over_it : whole.basis ≡ c.args.thms.now.basis =
     subst (λ (r : Result Theorem KernelError). IfOk r (λ th. th.basis ≡ c.basis.result.now)) c.in_ok-whole.ensures c.over.ensures.basis ∙ c.basis.ensures in
     where_ok c.put.result
-    (matching_infers c.args.thms.now given (bound_variables c.args.formula.now) (nameless [] c.args.t.now) c.requires.gives whole made over_it c.in_ok-body.body c.in_ok-body.ensures.gives c.in_ok-thm.thm c.in_ok-thm.ensures c.put.new.self)
+    (matching_infers c.args.thms.now given (bound_variables c.args.formula.now) (nameless [] c.args.t.now) c.requires.gives whole made over_it c.in_ok-body.body c.in_ok-body.ensures c.in_ok-thm.thm c.in_ok-thm.ensures c.put.new.self)
     c.put.ensures

@@ -20,22 +20,22 @@ pub node_theorem-reduced-requires-clause-applies :
     goal.node_theorem-reduced-requires-clause-applies
 node_theorem-reduced-requires-clause-applies t c = beta_applies c.args.basis.now c.args.ty.now c.args.node.now c.args.t.now c.requires.known c.requires.typed c.in-Beta.is c.requires.traced
 
-pub node_theorem-returns-in-Rule-clause-gives : goal.node_theorem-returns-in-Rule-clause-gives
-node_theorem-returns-in-Rule-clause-gives t c =
-    IfOk-weaker c.replaced.result _ _ (λ th e. rule_node c.args.basis.now c.args.ty.now c.args.node.now (nameless [] c.args.t.now) th.value c.in-Rule.rule c.in-Rule.is (subst (λ r. redex_equation c.args.basis.now c.args.ty.now r (nameless [] c.args.t.now) ≡ Some th.value) c.deref-in-Rule.ensures e)) c.replaced.ensures.gives
+pub node_theorem-returns-in-Rule : goal.node_theorem-returns-in-Rule
+node_theorem-returns-in-Rule t c =
+    IfOk-weaker c.replaced.result _ _ (λ th e. rule_node c.args.basis.now c.args.ty.now c.args.node.now (nameless [] c.args.t.now) th.value c.in-Rule.rule c.in-Rule.is (subst (λ r. redex_equation c.args.basis.now c.args.ty.now r (nameless [] c.args.t.now) ≡ Some th.value) c.deref-in-Rule.ensures e)) c.replaced.ensures
 
 -- ---- in the parts of an application
 pub parts_theorem-in_application-requires-clause-applies :
     goal.parts_theorem-in_application-requires-clause-applies
 parts_theorem-in_application-requires-clause-applies t c =
     parts_apply c.args.basis.now (used c.args.function.now) (used c.args.argument.now) (traced c.args.function.now) (traced c.args.argument.now) c.args.t.now c.application.result.0.now c.application.result.1.now c.type_of.result.now c.type_of-2.result.now c.args.ty.now c.application.ensures
-    c.type_of.ensures.named c.type_of-2.ensures.named c.requires.typed c.in_ok-left.left.value c.in_ok-right.right.value c.in_ok-left.ensures.gives c.in_ok-right.ensures.gives
+    c.type_of.ensures.named c.type_of-2.ensures.named c.requires.typed c.in_ok-left.left.value c.in_ok-right.right.value c.in_ok-left.ensures c.in_ok-right.ensures
 
-pub parts_theorem-returns-clause-gives : goal.parts_theorem-returns-clause-gives
-parts_theorem-returns-clause-gives t c =
+pub parts_theorem-returns : goal.parts_theorem-returns
+parts_theorem-returns t c =
     IfOk-weaker c.in_application.result _ _
     (λ th e. parts_node c.args.basis.now (used c.args.function.now) (used c.args.argument.now) (traced c.args.function.now) (traced c.args.argument.now) c.args.t.now c.application.result.0.now c.application.result.1.now c.type_of.result.now c.type_of-2.result.now c.args.ty.now
-    c.application.ensures c.type_of.ensures.named c.type_of-2.ensures.named c.requires.typed c.in_ok-left.left.value c.in_ok-right.right.value c.in_ok-left.ensures.gives c.in_ok-right.ensures.gives th.value e)
+    c.application.ensures c.type_of.ensures.named c.type_of-2.ensures.named c.requires.typed c.in_ok-left.left.value c.in_ok-right.right.value c.in_ok-left.ensures c.in_ok-right.ensures th.value e)
     c.in_application.ensures
 
 -- ---- in the body of an abstraction
@@ -45,20 +45,20 @@ body_theorem-body_at-requires t c = record { fits = own_typed c.args.v.now (used
 pub body_theorem-in_abstraction-requires : goal.body_theorem-in_abstraction-requires
 body_theorem-in_abstraction-requires t c = record {
   applies = body_applies c.args.v.now (used c.args.body.now) (traced c.args.body.now) c.args.t.now c.abstraction.result.0.now c.abstraction.result.1.now c.abstraction.ensures c.requires.traced c.in_ok-own.own c.in_ok-inside.inside c.in_ok-own.ensures.is c.in_ok-inside.ensures.is c.args.basis.now c.requires.known
-      c.type_of.result.now c.args.ty.now c.type_of.ensures.named c.in_ok-inside.ensures.typed c.requires.typed c.in_ok-th.th.value c.in_ok-th.ensures.gives;
+      c.type_of.result.now c.args.ty.now c.type_of.ensures.named c.in_ok-inside.ensures.typed c.requires.typed c.in_ok-th.th.value c.in_ok-th.ensures;
 }
 
-pub body_theorem-returns-clause-gives : goal.body_theorem-returns-clause-gives
-body_theorem-returns-clause-gives t c =
+pub body_theorem-returns : goal.body_theorem-returns
+body_theorem-returns t c =
     IfOk-weaker c.in_abstraction.result _ _
     (λ r e. body_node c.args.v.now (used c.args.body.now) (traced c.args.body.now) c.args.t.now c.abstraction.result.0.now c.abstraction.result.1.now c.abstraction.ensures c.requires.traced c.in_ok-own.own c.in_ok-inside.inside c.in_ok-own.ensures.is c.in_ok-inside.ensures.is c.args.basis.now c.requires.known
-    c.type_of.result.now c.args.ty.now c.type_of.ensures.named c.in_ok-inside.ensures.typed c.requires.typed c.in_ok-th.th.value c.in_ok-th.ensures.gives r.value e)
+    c.type_of.result.now c.args.ty.now c.type_of.ensures.named c.in_ok-inside.ensures.typed c.requires.typed c.in_ok-th.th.value c.in_ok-th.ensures r.value e)
     c.in_abstraction.ensures
 
 -- ---- one after the other
-pub both_theorem-returns-clause-gives : goal.both_theorem-returns-clause-gives
-both_theorem-returns-clause-gives t c =
+pub both_theorem-returns : goal.both_theorem-returns
+both_theorem-returns t c =
     IfOk-weaker c.one_after_other.result _ _
-    (λ th e. both_node c.args.basis.now (used c.args.first.now) (used c.args.second.now) (traced c.args.first.now) (traced c.args.second.now) c.args.ty.now c.in-Some.sides.ty.now c.args.t.now c.in-Some.sides.left.now c.in-Some.sides.right.now c.in_ok-left.left.value c.in_ok-left.ensures.gives (ap (λ (left : Theorem). left.sequent.concl) (sym c.deref-2.ensures) ∙ c.in-Some.ensures)
-    c.in_ok-right.right.value c.in_ok-right.ensures.gives th.value e)
+    (λ th e. both_node c.args.basis.now (used c.args.first.now) (used c.args.second.now) (traced c.args.first.now) (traced c.args.second.now) c.args.ty.now c.in-Some.sides.ty.now c.args.t.now c.in-Some.sides.left.now c.in-Some.sides.right.now c.in_ok-left.left.value c.in_ok-left.ensures (ap (λ (left : Theorem). left.sequent.concl) (sym c.deref-2.ensures) ∙ c.in-Some.ensures)
+    c.in_ok-right.right.value c.in_ok-right.ensures th.value e)
     c.one_after_other.ensures

@@ -8,21 +8,16 @@ use Rattle.hol_kernel.specs.Items.{Items}
 use Rattle.hol_kernel.specs.Sequent.{no_hyps}
 use Rattle.hol_kernel.specs.Theorem.{theorem_over}
 use Rattle.hol_kernel.specs.Typing.{HasType}
-use Rattle.hol_kernel.proofs.Subsets.{none_within}
 use Rattle.hol_just.specs.Over.{AreOver, sequents}
 use Rattle.hol_stack.specs.Sound.{AchievesNext}
 use Rattle.hol_stack.proofs.Histories.{none_over, back_begins, back_to, next_achieved, before_achieved}
 use Rattle.hol_stack.proofs.Exact.{last_left, last_typed}
 use Rattle.hol_stack.proofs.finishing.theorem.Goals as goal
 
-pub widen-requires : goal.widen-requires
-widen-requires c = record { within = none_within c.args.general.now c.basis-basis.result.now c.requires.general }
-
 pub back-init : goal.back-init
 back-init c = record {
   back = back_begins c.args.goal.now c.args.newest.now c.args.earlier.now c.new-thms.result.items c.requires.closed c.new-thms.ensures.items c.requires.sound;
   over = none_over c.args.newest.now.basis c.new-thms.result.items c.new-thms.ensures.items;
-  lemmas = c.in_ok-lemmas.ensures ∙ c.basis-basis.ensures;
   within = omega arith;
 }
 
@@ -48,7 +43,6 @@ back-preserved c =
           before_achieved c.args.goal.now c.args.newest.now.basis one (reverse (take i c.args.earlier.now)) ss (sequents c.in_ok-thms.thms.items) back
           c.in_ok-thms.ensures.achieved;
       over = subst (λ (b : Items). AreOver b c.in_ok-thms.thms.items) c.basis-basis.ensures c.in_ok-thms.ensures.over;
-      lemmas = c.in_ok-thms.ensures.kept ∙ c.back.invariant.lemmas;
       within = omega arith;
     }
 

@@ -9,15 +9,15 @@ use Rattle.hol_just.specs.MatchMp.{universals}
 use Rattle.hol_steps.proofs.OwnVariables.{universal_next, general_last}
 use Rattle.hol_steps.proofs.generalizing.generalized_theorem.Goals as goal
 
-pub generalize-next-requires-clause-stands : goal.generalize-next-requires-clause-stands
-generalize-next-requires-clause-stands c =
+pub for_each-next-requires-clause-stands : goal.for_each-next-requires-clause-stands
+for_each-next-requires-clause-stands c =
     let inv = c.variables.invariant in
     let is : c.variables.left.now ≡ c.in-Some.outer.now ++ c.in-Some.v.now ∷ [] = search rules in
     let last = general_last c.args.th.now.basis c.args.th.now.sequent.hyps c.variables.left.now c.in-Some.outer.now c.in-Some.v.now is inv.general in
     ap (λ b. is_type b c.in-Some.v.now.1) inv.basis ∙ last.0.0.0
 
-pub generalize-next-requires-clause-absent : goal.generalize-next-requires-clause-absent
-generalize-next-requires-clause-absent c =
+pub for_each-next-requires-clause-absent : goal.for_each-next-requires-clause-absent
+for_each-next-requires-clause-absent c =
     let inv = c.variables.invariant in
     let is : c.variables.left.now ≡ c.in-Some.outer.now ++ c.in-Some.v.now ∷ [] = search rules in
     let last = general_last c.args.th.now.basis c.args.th.now.sequent.hyps c.variables.left.now c.in-Some.outer.now c.in-Some.v.now is inv.general in

@@ -2,7 +2,6 @@ use Rattle.std.proofs.Common.{◌≡◌, ap, sym, ◌∙◌, subst}
 use Rattle.hol_kernel.specs.Items.{Items}
 use Rattle.hol_resolve.specs.Over.{AreOver}
 use Rattle.hol_resolve.specs.ReadingView.{readings_value}
-use Rattle.hol_exec.specs.Expr.{resolved_expr}
 use Rattle.hol_exec.specs.Resolved.{cited_theorems, occurs_in, resolved_basis}
 use Rattle.hol_exec.specs.SetupView.{setup_value}
 use Rattle.hol_exec.proofs.Resolutions.{is_context, untaken_found}
@@ -19,7 +18,6 @@ resolve_expr-requires g c =
       theorems = same;
       within = is_context c.args.reads.now.cited c.args.reads.now.made (readings_value c.args.readings) c.in_ok-basis.basis c.deref.result.now c.cited.ensures.theory is same;
       over = subst (λ (b : Items). AreOver b (readings_value c.args.readings)) (sym is) c.requires;
-      general = c.lemmas.ensures;
     }
 
 pub returns-in-Ok-clause-value : goal.returns-in-Ok-clause-value

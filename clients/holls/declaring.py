@@ -1,0 +1,36 @@
+"""Which theories of a project declare an operator or a form, by their files' texts: for words on one that isn't declared where it is written."""
+
+from __future__ import annotations
+
+import os
+import re
+import stat
+from functools import lru_cache
+from typing import FrozenSet, List, Sequence
+
+from holls.projects import SUFFIX, Moment, changed
+
+MOST_FILES, MOST_BYTES = 500, 2_000_000
+"""So many files are looked at, and none that is larger."""
+NUMERALS = "num"
+_DECLARED = re.compile(r"^[ \t]*(?:infix[rl][ \t]+[0-9]+|notation)[ \t]+([^\s;]+)", re.M)
+_FORMS = {"if": "if", "then": "if", "else": "if", "let": "let", "in": "let", "and": "let"}
+
+
+def theories(paths: Sequence[str], written: str) -> List[str]:
+    """The theories whose files declare what is written: an operator, a word of a form, or a numeral."""
+    wanted = NUMERALS if written.isdigit() else _FORMS.get(written, written)
+    return [os.path.basename(path)[:-len(SUFFIX)] for path in paths[:MOST_FILES] if wanted in _declared(path, changed(path))]
+
+
+@lru_cache(maxsize=2 * MOST_FILES)
+def _declared(path: str, moment: Moment) -> FrozenSet[str]:
+    """What a file declares, as it was at a moment."""
+    try:
+        about = os.stat(path)
+        if not stat.S_ISREG(about.st_mode) or about.st_size > MOST_BYTES:
+            return frozenset()
+        with open(path, encoding="utf-8", errors="replace") as stream:
+            return frozenset(_DECLARED.findall(stream.read()))
+    except OSError:
+        return frozenset()

@@ -1,0 +1,1 @@
+"""Theories that go to HOL Light, and theorems that come from it."""

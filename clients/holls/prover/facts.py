@@ -1,0 +1,53 @@
+"""What is found of a theorem's statement, once for all goals."""
+
+from __future__ import annotations
+
+from functools import cached_property
+from typing import FrozenSet, List, Optional
+
+from holls.prover import induction, patterns, typed
+from holls.prover.induction import Induction
+from holls.prover.patterns import Pattern
+from holls.prover.typed import Term
+
+
+class Fact:
+    """A theorem's statement."""
+
+    def __init__(self, name: str, term: Term) -> None:
+        self.name, self.term = name, term
+
+    @cached_property
+    def patterns(self) -> List[Pattern]:
+        """What it concludes."""
+        return patterns.patterns(self.term)
+
+    @cached_property
+    def head(self) -> Optional[str]:
+        """The constant that it begins with."""
+        return patterns.head(self.term)
+
+    @cached_property
+    def constants(self) -> FrozenSet[str]:
+        """The names of its constants."""
+        return frozenset(part[1] for part in typed.subterms(self.term) if part[0] == "c")
+
+    @cached_property
+    def size(self) -> int:
+        """How many names it has."""
+        return typed.size(self.term)
+
+    @cached_property
+    def is_closed(self) -> bool:
+        """Whether no variable is free in it."""
+        return not typed.variables(self.term)
+
+    @cached_property
+    def types(self) -> List[str]:
+        """Its type variables, in order."""
+        return sorted(typed.term_types(self.term))
+
+    @cached_property
+    def inductions(self) -> List[Induction]:
+        """The inductions that it states."""
+        return induction.of(self.name, self.term)

@@ -1,0 +1,262 @@
+"""A server for searches that stays: the theories stand in it from one search to the next, and what is known of their theorems is kept."""
+
+from __future__ import annotations
+
+import threading
+from typing import Dict, List, NamedTuple, Optional, Sequence, Tuple
+
+from holls import graph, protocol
+from holls import names as names_of
+from holls.files import File
+from holls.protocol import Goals, Refusal
+from holls.prover import arithmetic, clock, reading, trying
+from holls.prover.asking import Asker, Silent
+from holls.prover.finder import Finder, Tell
+from holls.prover.premises import Premises
+from holls.prover.scope import ARITHMETIC, Scope
+from holls.prover.shown import Reader
+from holls.prover.typed import Term
+
+_START_SECONDS = 120.0
+MOST_THEORIES = protocol.THEORIES - 4
+"""So many theories stand beside the copy in which steps are tried."""
+_MOST_NEW = 3
+"""So many theories more are imported for a proof at most."""
+_CHOSEN = 16
+_SHARE, _SHARE_WITHOUT_ARITHMETIC = 0.6, 0.25
+"""The part of the time for the theories that are imported; and where the goal is about numbers, and the theory of arithmetic isn't."""
+_LEAST_SECONDS = 1.0
+_MOST_SCOPES = 200
+
+
+class NoGoal(Exception):
+    """No goal is open at the place; the text says why."""
+
+
+class Answer(NamedTuple):
+    """The steps that close a goal, None where none were found; the command behind which they belong; words on why there are none; and the
+    theories that have to be imported before the proof."""
+
+    steps: Optional[List[str]]
+    number: int
+    why: str = ""
+    imports: Tuple[str, ...] = ()
+
+
+class Request(NamedTuple):
+    """A goal that is open behind a command of a file: the first one. `imports` are the files that the file imports, in order, `others` files that it
+    might import, each behind its imports. Of the theorems `names` alone are to be taken first, if any are given; by arithmetic alone is tried
+    where that is said, and with `is_simplifying` what makes the goal simpler is answered, whether it closes it or not."""
+
+    file: File
+    number: int
+    imports: Sequence[File]
+    others: Sequence[File] = ()
+    names: Optional[Sequence[str]] = None
+    seconds: float = 5.0
+    is_arithmetic: bool = False
+    is_simplifying: bool = False
+    tell: Tell = lambda name: None
+
+
+class Warm:
+    """Searches, one after the other. Silent where the program ends or doesn't answer; the next search begins another one."""
+
+    def __init__(self, program: Sequence[str]) -> None:
+        self.program = list(program)
+        self._lock = threading.Lock()
+        self._asker: Optional[Asker] = None
+        self._standing: List[Tuple[str, List[str]]] = []
+        self._scopes: Dict[Tuple[Tuple[str, int], ...], Scope] = {}
+
+    def stop(self) -> None:
+        """Ends the server."""
+        with self._lock:
+            self._forget()
+
+    def _forget(self) -> None:
+        if self._asker is not None:
+            self._asker.stop()
+        self._asker, self._standing = None, []
+
+    def prepare(self, imports: Sequence[File]) -> None:
+        """Has theories stand, so that a search begins at once. Silent as for `search`."""
+        with self._lock:
+            try:
+                self._ready(imports)
+                self._imported(imports)
+            except Silent:
+                self._forget()
+                raise
+
+    def search(self, request: Request) -> Answer:
+        """The answer to a request. Cancelled where `tell` raises it; NoGoal where no goal is open there; Unprovable where a theorem that is named
+        doesn't stand."""
+        with self._lock:
+            try:
+                return self._search(request)
+            except Silent:
+                self._forget()
+                raise
+
+    def _search(self, request: Request) -> Answer:
+        asker = self._ready(request.imports)
+        slots = [request.file.slot(at) for at in range(request.number + 1)]
+        last = max((slot for slot in slots if slot is not None), default=-1)
+        texts = [entry.sent for entry in request.file.theory.entries[:last + 1]]
+        asker.copy(texts)
+        try:
+            goals, accepted = _open_goals(asker, request.file, request.number)
+            written = names_of.quoted(request.file.commands[request.file.proof_begin(accepted)])
+            standing = self._imported(request.imports).copy()
+            standing.add_file(request.file, request.number + 1)
+            standing.keep(frozenset(asker.theorems()))
+            place = _Place(asker, standing, goals, written, texts, request.file.slot(request.file.proof_begin(accepted)) or 0)
+            until = clock.now() + request.seconds
+            finder = Finder(asker, standing, goals, written, clock.now() + self._share(request, place) * request.seconds)
+            finder.tell = request.tell
+            is_without = request.is_arithmetic and arithmetic.NEEDED not in standing.theorems and _has_arithmetic(request)
+            found = finder.simplify() if request.is_simplifying else None if is_without else \
+                finder.find_numbers() if request.is_arithmetic else finder.find(request.names)
+        finally:
+            asker.forget()
+        more = [] if found or request.is_simplifying or request.names or finder.counterexample is not None else self._further(request, place)
+        imported: Tuple[str, ...] = ()
+        if more:
+            found, imported = self._with_more(place, more, request, until)
+        return Answer(found, accepted, "" if found else finder.why_none(request.seconds), imported)
+
+    @staticmethod
+    def _share(request: Request, place: "_Place") -> float:
+        """The part of the time for what is imported."""
+        if not request.others or request.names:
+            return 1.0
+        is_lacking = arithmetic.NEEDED not in place.standing.theorems and _has_arithmetic(request) and arithmetic.concerns(place.terms())
+        return _SHARE_WITHOUT_ARITHMETIC if is_lacking else _SHARE
+
+    def _ready(self, files: Sequence[File]) -> Asker:
+        """A server in which theories stand; those that stood there before, and are the same still, aren't run again."""
+        wanted = {file.theory.name: [entry.sent for entry in file.theory.entries] for file in files[:MOST_THEORIES]}
+        if self._asker is None:
+            self._asker, self._standing = Asker(self.program, _START_SECONDS), []
+        same = next((at for at, (name, texts) in enumerate(self._standing) if wanted.get(name, texts) != texts), len(self._standing))
+        if len(self._standing[:same]) + sum(name not in dict(self._standing[:same]) for name in wanted) > MOST_THEORIES:
+            same = 0
+        while len(self._standing) > same:
+            self._asker.forget()
+            self._standing.pop()
+        names = {name for name, _ in self._standing}
+        for name, texts in wanted.items():
+            if name not in names:
+                self._asker.add(name, texts)
+                self._standing.append((name, texts))
+        return self._asker
+
+    def _imported(self, files: Sequence[File]) -> Scope:
+        """What some files make. Each is read once, as long as it and those before it are the same."""
+        key = tuple((file.theory.name, hash(tuple(entry.sent for entry in file.theory.entries))) for file in files)
+        if key not in self._scopes:
+            made = self._imported(files[:-1]).copy() if files else Scope()
+            if files:
+                made.add_file(files[-1])
+            if len(self._scopes) > _MOST_SCOPES:
+                self._scopes.clear()
+            self._scopes[key] = made
+        return self._scopes[key]
+
+    # Theories that aren't imported
+
+    def _further(self, request: Request, place: "_Place") -> List[str]:
+        """The theories that aren't imported and have theorems that are likely to help, the likeliest first."""
+        if not request.others:
+            return []
+        terms, found = place.terms(), {}
+        if arithmetic.concerns(terms) and _has_arithmetic(request):
+            found[ARITHMETIC] = None
+        if not request.is_arithmetic:
+            every = self._imported(list(request.imports) + list(request.others))
+            theory = {one.name: file.theory.name for file in request.others for one in names_of.written(file) if one.name in every.theorems}
+            premises = Premises([every.fact(name) for name in every.theorems], frozenset(reading.PRELUDE))
+            found.update(dict.fromkeys(theory[name] for name in premises.chosen(terms, _CHOSEN) if name in theory))
+        return list(found)[:_MOST_NEW]
+
+    def _with_more(self, place: "_Place", more: Sequence[str], request: Request, until: float) -> Tuple[Optional[List[str]], Tuple[str, ...]]:
+        """Steps behind more imports, and those of these that they need."""
+        files = _behind_imports(more, request)
+        asker = self._ready(list(request.imports) + [file for file in files if file not in request.imports])
+        asker.copy(place.with_imports(more))
+        try:
+            report = asker.report(asker.count - 1)
+            if not isinstance(report, Goals) or not report.goals:
+                return None, ()
+            standing = self._imported(list(request.imports) + [file for file in files if file not in request.imports]).copy()
+            standing.add_file(request.file, request.number + 1)
+            standing.keep(frozenset(asker.theorems()))
+            finder = Finder(asker, standing, report, place.written, max(until, clock.now() + _LEAST_SECONDS))
+            finder.tell = lambda name: request.tell("%s, importing %s" % (name, " ".join(more)))
+            found = finder.find_numbers() if request.is_arithmetic else finder.find(None)
+        finally:
+            asker.forget()
+        return (found, self._needed(place, more, found)) if found else (None, ())
+
+    @staticmethod
+    def _needed(place: "_Place", more: Sequence[str], steps: Sequence[str]) -> Tuple[str, ...]:
+        """The imports without which steps don't close the goal."""
+        needed = list(more)
+        for name in list(more):
+            fewer = [other for other in needed if other != name]
+            place.asker.copy(place.with_imports(fewer))
+            report = place.asker.report(place.asker.count - 1)
+            if isinstance(report, Goals) and report.goals and trying.check(place.asker, steps, report):
+                needed = fewer
+            place.asker.forget()
+        return tuple(needed)
+
+
+class _Place(NamedTuple):
+    """A goal in a copy: the commands up to it, and the place among them of the one that begins its proof."""
+
+    asker: Asker
+    standing: Scope
+    goals: Goals
+    written: str
+    texts: List[str]
+    begin: int
+
+    def terms(self) -> List[Term]:
+        """The goal's terms; none where they can't be read."""
+        try:
+            shown = Reader(self.standing.signature).read(self.goals.goals[0])
+        except (reading.Unreadable, RecursionError):
+            return []
+        return list(shown.assumptions) + [shown.conclusion]
+
+    def with_imports(self, names: Sequence[str]) -> List[str]:
+        """The commands with more imports before the proof."""
+        return self.texts[:self.begin] + ["import " + name for name in names] + self.texts[self.begin:]
+
+
+def _has_arithmetic(request: Request) -> bool:
+    """Whether the theory of arithmetic could be imported."""
+    return any(file.theory.name == ARITHMETIC for file in request.others)
+
+
+def _behind_imports(names: Sequence[str], request: Request) -> List[File]:
+    """The files of some theories and of those that they import, in order."""
+    every = list(request.imports) + list(request.others)
+    by_name = {file.theory.name: file for file in every}
+    wanted = {file.theory.name for name in names for file in graph.ordered_from(by_name[name], by_name)}
+    return [file for file in every if file.theory.name in wanted]
+
+
+def _open_goals(asker: Asker, file: File, number: int) -> Tuple[Goals, int]:
+    """The goals that are open behind a command, over refused ones, and the command that they stand behind."""
+    for at in range(number, -1, -1):
+        slot = file.slot(at)
+        report = None if slot is None else asker.report(slot)
+        if slot is None or isinstance(report, Refusal):
+            continue
+        if isinstance(report, Goals) and report.goals:
+            return report, at
+        break
+    raise NoGoal("no goal is open there")

@@ -1,0 +1,187 @@
+"""A file's commands as they are sent: with their quotations in the program's own language, and with what is declared where each stands."""
+
+from __future__ import annotations
+
+import re
+from dataclasses import dataclass
+from typing import Dict, List, Mapping, NamedTuple, Optional, Sequence, Tuple
+
+from holls.surface import declarations
+from holls.surface.declarations import NOTHING, Declaration, Scope
+from holls.surface.errors import Misread
+from holls.surface.table import EMPTY, Table
+from holls.surface.translation import Translation, translated
+from holls.surface.vocabulary import MANY, PRELUDE_CONSTANTS, PRELUDE_TYPES, Vocabulary
+from holls.text import Blemish, Command
+
+_NAMING = frozenset(("new_definition", "new_constant", "new_type", "new_basic_type_definition"))
+_FIRST_NAME = re.compile(r"\s*([A-Za-z_][A-Za-z0-9_']*)")
+
+
+@dataclass(frozen=True)
+class Sent(Command):
+    """A command that is sent otherwise than it is written: its text is what is sent, and its places lead from there to the file.
+
+    One that can't be read as notation has an error, and an empty text.
+    """
+
+    written: Command
+    translation: Translation
+
+    @property
+    def as_written(self) -> Command:
+        """The command as the file has it, but for comments and symbols."""
+        return self.written
+
+    @property
+    def error(self) -> Optional[Misread]:
+        """What is wrong with it as notation, with its range in the command as it is written."""
+        return self.translation.error
+
+    def place(self, offset: int) -> int:
+        """The place in the file of a place in what is sent, which may be the text's length."""
+        return self.end if offset >= len(self.text) else self.written.place(self.translation.place(offset))
+
+    def offset(self, place: int) -> int:
+        """The place in what is sent of the innermost part that a place of the file belongs to, at most the text's length."""
+        return self.translation.offset(self.written.offset(place))
+
+    def range(self, start: int, end: int) -> Tuple[int, int]:
+        """The range in the file from which a range of what is sent comes."""
+        return self.written.range(*self.translation.range(start, end))
+
+    @property
+    def word(self) -> str:
+        """The command's first word."""
+        return self.written.word
+
+    @property
+    def name(self) -> str:
+        """The command's second word."""
+        return self.written.name
+
+
+class Names(NamedTuple):
+    """The constants and constructors that a file's commands make, with those that it imports; its own with the command that makes each."""
+
+    imported: Vocabulary
+    constants: Dict[str, int]
+    constructors: Dict[str, Tuple[int, int]]
+
+
+class NamesAt(Vocabulary):
+    """The names that stand before a command of a file."""
+
+    def __init__(self, names: Names, number: int) -> None:  # The names stand in `names`, so that nothing else is made.
+        self.names, self.number = names, number
+
+    def takes_arguments(self, name: str) -> Optional[bool]:
+        made = self.names.constructors.get(name)
+        return made[1] != 0 if made is not None and made[0] < self.number else self.names.imported.takes_arguments(name)
+
+    def is_constant(self, name: str) -> bool:
+        return self.names.constants.get(name, self.number) < self.number or self.names.imported.is_constant(name)
+
+
+class Notation:
+    """What a file's commands are in notation: as they are sent, with what is declared behind each, and what is wrong.
+
+    `declared` are the numbers of the declarations, which the program never gets; `exported` and `vocabulary` are what importing files have of this one.
+    """
+
+    def __init__(self, written: Sequence[Command], imported: Mapping[str, "Notation"]) -> None:
+        self.commands: List[Command] = []
+        self.declared: Dict[int, Declaration] = {}
+        self.blemishes: List[Blemish] = []
+        self.tables: List[Table] = []
+        constructors: Dict[str, int] = {}
+        constants: Dict[str, object] = {}
+        for other in imported.values():
+            constructors.update(other.vocabulary.constructors)
+            constants.update(other.vocabulary.constants)
+        self.names = Names(Vocabulary(constructors, constants), {}, {})
+        self._scope = NOTHING
+        self._standing = NamesAt(self.names, 0)
+        for number, command in enumerate(written):
+            self._add(number, command, imported)
+        self.exported = self._scope.exported
+        self.vocabulary = Vocabulary({**constructors, **{name: number for name, (_, number) in self.names.constructors.items()}},
+                                     {**constants, **self.names.constants})
+        self._check_constants(written)
+
+    def _add(self, number: int, command: Command, imported: Mapping[str, "Notation"]) -> None:
+        made: Command = command
+        word = command.word
+        if word in declarations.WORDS:
+            self._declare(number, command)
+        elif word == "import":
+            self._import(command, imported.get(command.name))
+        else:
+            self._standing.number = number
+            found = translated(command.text, self._scope.table, self._standing)
+            if found.segments is not None or found.error is not None:
+                made = Sent(found.text, command.start, command.end, command.marks, command, found)
+            if word in _NAMING:
+                self._take_names(number, made)
+        self.commands.append(made)
+        self.tables.append(self._scope.table)
+
+    def _declare(self, number: int, command: Command) -> None:
+        """Takes a declaration; one that can't stand is told, and does nothing."""
+        try:
+            declaration = declarations.read(command.text)
+            self.declared[number] = declaration or Declaration("", (), (), True)
+            if declaration:
+                self._scope = self._scope.declared(declaration)
+        except Misread as error:
+            self.declared[number] = Declaration("", (), (), True)
+            self.blemishes.append(Blemish(*command.range(error.start, error.end), error.text, True))
+
+    def _import(self, command: Command, other: Optional["Notation"]) -> None:
+        """Takes what another file declares."""
+        if other is None:
+            return
+        self._scope, clashes = self._scope.imported(other.exported)
+        for clash in clashes:
+            told = "of what %s declares this can't be had: %s" % (command.name, clash)
+            self.blemishes.append(Blemish(command.start, command.end, told, True))
+
+    def _take_names(self, number: int, command: Command) -> None:
+        """Takes the constants and constructors that a command makes, by its text."""
+        words = command.text.split("`")[0].split()[1:]
+        if command.word == "new_definition":
+            defined = _FIRST_NAME.match(command.text.split("`")[1]) if "`" in command.text else None
+            if defined:
+                self.names.constants.setdefault(defined.group(1), number)
+        elif command.word == "new_constant" and words:
+            self.names.constants.setdefault(words[0], number)
+        elif command.word == "new_type" and len(words) == 2 and words[1].isdecimal():
+            self.names.constructors.setdefault(words[0], (number, int(words[1][:4])))
+        elif command.word == "new_basic_type_definition" and len(words) > 2:
+            self.names.constructors.setdefault(words[0], (number, MANY))
+            for name in words[1:3]:
+                self.names.constants.setdefault(name, number)
+
+    def _check_constants(self, written: Sequence[Command]) -> None:
+        """Warns of declarations for constants that nothing makes."""
+        for number, declaration in self.declared.items():
+            kind = self.vocabulary.constructors if declaration.kind == "type_infixr" else self.vocabulary.constants
+            known = PRELUDE_TYPES if declaration.kind == "type_infixr" else PRELUDE_CONSTANTS
+            for name, start, end in declaration.constants:
+                if name not in kind and name not in known:
+                    told = "nothing makes the constant %s in this file or in those that it imports" % name
+                    self.blemishes.append(Blemish(*written[number].range(start, end), told, False))
+
+    def is_like(self, other: "Notation") -> bool:
+        """Whether importing files have the same of both."""
+        mine, others = self.vocabulary, other.vocabulary
+        return self is other or (
+            self.exported is other.exported and mine.constructors == others.constructors and mine.constants.keys() == others.constants.keys())
+
+    def table(self, number: Optional[int]) -> Table:
+        """What is declared behind a command."""
+        return EMPTY if number is None or not self.tables else self.tables[min(number, len(self.tables) - 1)]
+
+    def vocabulary_at(self, number: Optional[int]) -> Vocabulary:
+        """The names that stand behind a command."""
+        return NamesAt(self.names, 0 if number is None else number + 1)

@@ -1,0 +1,74 @@
+"""A quotation's text cut into tokens with their ranges."""
+
+from __future__ import annotations
+
+from typing import Dict, List, NamedTuple, Sequence
+
+from holls.surface.errors import Misread
+from holls.surface.table import RUN, Table
+
+MOST_CHARACTERS = 200_000
+"""The longest text that is read."""
+
+WORD, NUMBER, VARIABLE, SYMBOL, END = "word", "number", "variable", "symbol", "end"
+_KINDS = ("", WORD, NUMBER, VARIABLE, SYMBOL)
+
+
+class Token(NamedTuple):
+    """A token with its range. VARIABLE is a type variable `?0`, END stands behind the last token."""
+
+    kind: str
+    text: str
+    start: int
+    end: int
+
+
+def tokens(text: str, table: Table, base: int = 0) -> List[Token]:
+    """The tokens of a text that begins at a place, with one more at its end. Raises `Misread` at what begins no token."""
+    if len(text) > MOST_CHARACTERS:
+        raise Misread(base, base + 1, "this text has over %d characters" % MOST_CHARACTERS)
+    found: List[Token] = []
+    put, make = found.append, tuple.__new__  # Token(..) takes twice as long.
+    last = len(text.rstrip(" \t\r\n"))
+    for match in table.tokens.finditer(text, 0, last):
+        kind = match.lastindex
+        if kind == 5:
+            raise unknown(text, match.start(5), base)
+        part, end = match[kind], match.end() + base
+        put(make(Token, (_KINDS[kind], part, end - len(part), end)))
+    found.append(Token(END, "", last + base, last + base))
+    return found
+
+
+def misread(token: Token, base: int, text: str) -> Misread:
+    """The error at a token; at the end of a text that begins at a place, the last character is marked."""
+    if token.kind is END:
+        return Misread(max(token.start - 1, base), max(token.start, base + 1), text)
+    return Misread(token.start, token.end, text)
+
+
+def unknown(text: str, place: int, base: int) -> Misread:
+    """The error at a place where no symbol begins: it names the run of characters that it stands in."""
+    run = next((one for one in RUN.finditer(text) if one.start() <= place < one.end()), None)
+    if run is None:
+        shown = text[place] if text[place].isprintable() else "U+%04X" % ord(text[place])
+        return Misread(base + place, base + place + 1, "`%s` begins no symbol of the notation" % shown)
+    symbol = run.group()
+    return Misread(base + run.start(), base + run.end(), "`%s` is no operator here" % symbol, symbol)
+
+
+def bars(found: Sequence[Token]) -> Dict[int, List[int]]:
+    """For each opening `{` the places among the tokens of the `|` that stand in it and in no bracket inside."""
+    places: Dict[int, List[int]] = {}
+    opened: List[int] = []
+    for at, token in enumerate(found):
+        if token.kind != SYMBOL:
+            continue
+        if token.text in ("(", "[", "{"):
+            opened.append(at)
+        elif token.text in (")", "]", "}"):
+            if opened:
+                opened.pop()
+        elif token.text == "|" and opened and found[opened[-1]].text == "{":
+            places.setdefault(opened[-1], []).append(at)
+    return places

@@ -1,0 +1,55 @@
+"""Which names are constants and constructors of types at a place, as far as reading needs it."""
+
+from __future__ import annotations
+
+from typing import Dict, Mapping, Optional, Tuple
+
+MANY = -1
+"""The number of arguments of a constructor that takes some, where their number isn't known."""
+
+PRELUDE_TYPES = {"bool": 0, "ind": 0, "fun": 2}
+PRELUDE_CONSTANTS = frozenset(("T", "F", "ONE_ONE", "ONTO"))
+
+
+class Vocabulary:
+    """The constants, and the constructors with the numbers of their arguments, beside those of the prelude."""
+
+    def __init__(self, constructors: Optional[Mapping[str, int]] = None, constants: Optional[Mapping[str, object]] = None) -> None:
+        self.constructors: Dict[str, int] = dict(constructors or {})
+        self.constants: Dict[str, object] = dict(constants or {})
+
+    def takes_arguments(self, name: str) -> Optional[bool]:
+        """Whether a constructor takes arguments; None where the name is no constructor that is known."""
+        number = self.constructors.get(name, PRELUDE_TYPES.get(name))
+        return None if number is None else number != 0
+
+    def is_constant(self, name: str) -> bool:
+        """Whether a name is a constant's."""
+        return name in self.constants or name in PRELUDE_CONSTANTS
+
+
+class Asked(Vocabulary):
+    """A vocabulary that keeps what it was asked, with its answers: what was read by it holds wherever the answers are the same."""
+
+    def __init__(self, over: Vocabulary) -> None:
+        super().__init__()
+        self.over = over
+        self.answers: Dict[Tuple[str, str], Optional[bool]] = {}
+
+    def takes_arguments(self, name: str) -> Optional[bool]:
+        found = self.answers[("type", name)] = self.over.takes_arguments(name)
+        return found
+
+    def is_constant(self, name: str) -> bool:
+        found = self.answers[("constant", name)] = self.over.is_constant(name)
+        return found
+
+
+def agrees(vocabulary: Vocabulary, answers: Mapping[Tuple[str, str], Optional[bool]]) -> bool:
+    """Whether a vocabulary gives these answers."""
+    return all((vocabulary.takes_arguments(name) if kind == "type" else vocabulary.is_constant(name)) == answer
+               for (kind, name), answer in answers.items())
+
+
+EVERY_TYPE = None
+"""In the place of a vocabulary: each name behind a type is a constructor, as the plain language reads."""

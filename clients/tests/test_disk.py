@@ -1,0 +1,131 @@
+"""What a folder may hold that others have filled: pipes, devices, links, odd project files, names that would forge lines."""
+
+import json
+import os
+import pathlib
+import subprocess
+import tempfile
+import unittest
+
+from holls import disk, projects, say
+from tests.helpers import HOLLS, PYTHON, SECONDS, fake, proofs
+
+
+@unittest.skipUnless(hasattr(os, "mkfifo"), "there are no pipes with names")
+class Folders(unittest.TestCase):
+    def setUp(self):
+        room = tempfile.TemporaryDirectory()
+        self.addCleanup(room.cleanup)
+        self.room = pathlib.Path(room.name)
+        self.folder = self.room / "folder"
+        self.folder.mkdir()
+        self.program = fake(self.room)
+
+    def holls(self, *words):
+        done = subprocess.run([*PYTHON, str(HOLLS), *map(str, words), "--server", self.program], stdout=subprocess.PIPE, stderr=subprocess.PIPE,
+                              cwd=str(self.folder), timeout=SECONDS)
+        return done.returncode, done.stdout.decode(), done.stderr.decode()
+
+    def fill(self):
+        """A folder with one theory, and all that is none."""
+        (self.folder / "A.hol").write_text(proofs(1))
+        os.mkfifo(str(self.folder / "Pipe.hol"))
+        (self.folder / "Zero.hol").symlink_to("/dev/zero")
+        (self.folder / "Self.hol").symlink_to("Self.hol")
+        (self.folder / "Gone.hol").symlink_to("nowhere")
+        (self.folder / "loop").symlink_to(".")
+        (self.folder / "self").symlink_to("self")
+        (self.folder / "Folder.hol").mkdir()
+
+    def test_what_is_no_file_is_named_and_passed_over(self):
+        self.fill()
+        status, said, complained = self.holls("check", self.folder)
+        self.assertEqual((status, said), (0, "%s/A.hol: 4 commands, 1 theorem, all accepted\n" % self.folder))
+        self.assertEqual(sorted(complained.splitlines()), sorted(
+            "holls: %s/%s.hol is passed over: it is no regular file" % (self.folder, name) for name in ("Pipe", "Zero", "Self", "Gone")))
+        for name in ("Pipe", "Zero"):
+            self.assertEqual(self.holls("check", "%s.hol" % name), (2, "", "holls: %s.hol is no regular file\n" % name))
+        self.assertIn("can't be read", self.holls("check", "Self.hol")[2])
+        self.assertEqual(self.holls("search", "N0")[0], 0)
+
+    def test_an_import_of_what_is_no_file_is_told_at_its_place(self):
+        self.fill()
+        for name in ("Pipe", "Zero", "Self", "Gone", "Folder"):
+            (self.folder / "B.hol").write_text("import %s;;\n" % name)
+            status, said, _ = self.holls("check", "B.hol")
+            self.assertEqual((status, said.splitlines()[0]), (1, "B.hol:1:1: error: there is no file %s.hol in %s" % (name, self.folder)))
+
+    def test_project_files_that_are_none(self):
+        (self.folder / "A.hol").write_text(proofs(1))
+        file = self.folder / projects.PROJECT_FILE
+        for text, told in (('{"folders": ["\\u0000"]}', "has to be a list of folders' names"), ('{"folders": ["\\ud800"]}', "list of folders' names"),
+                           ("[" * 100_000, "can't be read: "), ("[]", "can't be read"), ("{", "can't be read"), (b"\xff", "can't be read"),
+                           ('{"folder": ["."]}', "the key `folder` means nothing"), ('{"folders": ["nowhere"]}', "there is no folder"),
+                           (" " * (projects.PROJECT_FILE_BYTES + 1), "can't be read: it has more than 1 MB")):
+            file.write_bytes(text if isinstance(text, bytes) else text.encode())
+            status, said, _ = self.holls("check", "A.hol")
+            self.assertEqual(status, 1, text[:20])
+            self.assertIn(told, said.splitlines()[0])
+        file.unlink()
+        os.mkfifo(str(file))
+        self.assertEqual(self.holls("check", "A.hol")[0], 0)
+
+    def test_a_project_of_all_folders_there_are_is_cut(self):
+        (self.folder / "A.hol").write_text(proofs(1))
+        (self.folder / projects.PROJECT_FILE).write_text('{"folders": [".", "/"]}')
+        status, said, _ = self.holls("check", "A.hol")
+        self.assertEqual(status, 1)
+        self.assertIn("name more than %d folders" % projects.MOST_FOLDERS, said.replace("names more", "name more"))
+
+    def test_a_theory_of_the_library_is_told_how_it_is_reached(self):
+        (self.folder / "A.hol").write_text("import sets;;\nimport nothing_of_this_name;;\n")
+        _, said, _ = self.holls("check", "A.hol")
+        told, other = [line for line in said.splitlines() if "there is no file" in line]
+        self.assertNotIn("library", other)
+        text, _, place = told.partition("; the library has it: write ")[2].rpartition(" into ")
+        self.assertEqual(place, str(self.folder.resolve() / projects.PROJECT_FILE))
+        (self.folder / projects.PROJECT_FILE).write_text(text)
+        _, said, _ = self.holls("check", "A.hol")
+        self.assertNotIn("there is no file sets.hol", said)
+
+    def test_within(self):
+        other = self.room / "other"
+        other.mkdir()
+        (other / "Theirs.hol").write_text(proofs(1))
+        (self.folder / "A.hol").write_text("import Theirs;;\n")
+        (self.folder / projects.PROJECT_FILE).write_text(json.dumps({"folders": [".", str(other)]}))
+        self.assertEqual(self.holls("check", "A.hol")[0], 0)
+        status, said, _ = self.holls("check", "--within", ".", "A.hol")
+        self.assertEqual(status, 1)
+        self.assertIn("A.hol:1:1: error: the file %s/Theirs.hol lies outside of ., which --within names" % other, said)
+        self.assertEqual(self.holls("check", "--within", ".", "--within", other, "A.hol")[0], 0)
+        self.assertEqual(self.holls("check", "--within", other, "A.hol")[0], 2)
+        (self.folder / "Theirs.hol").symlink_to(other / "Theirs.hol")
+        (self.folder / projects.PROJECT_FILE).unlink()
+        self.assertEqual(self.holls("check", "--within", ".", "A.hol")[0], 1)
+
+    def test_no_name_forges_a_line(self):
+        for name in ("a\nB.hol: 1 command, 1 theorem, all accepted\n.hol", "c\u202e.hol", "d\x1b[2J.hol", os.fsdecode(b"\xff.hol")):
+            (self.folder / name).write_text("qed;;\n")
+        status, said, complained = self.holls("check", self.folder)
+        self.assertEqual(status, 1)
+        for line in said.splitlines() + complained.splitlines():
+            self.assertTrue(line.isprintable(), line)
+        self.assertFalse([line for line in said.splitlines() if line.startswith("B.hol")])
+
+
+class Small(unittest.TestCase):
+    def test_printable(self):
+        self.assertEqual(say.printable("∀x. é\n\x1b\u202e\udcff"), "∀x. é\\n\\x1b\\u202e\\udcff")
+
+    def test_a_file_that_is_too_large_is_not_read(self):
+        with tempfile.TemporaryDirectory() as room:
+            file = pathlib.Path(room, "A.hol")
+            with file.open("wb") as stream:
+                stream.truncate(disk.FILE_BYTES + 1)
+            with self.assertRaisesRegex(disk.CannotRead, "more than 16 MB"):
+                disk.read(str(file))
+
+
+if __name__ == "__main__":
+    unittest.main()

@@ -1,0 +1,148 @@
+"""Finding proofs over the library: shares of a list of goals, arithmetic, and goals that are false."""
+
+import random
+import time
+import unittest
+
+from holls.prover import clock, counterexamples, linear, models, polynomials, reading, typed
+from holls.prover.finder import Finder
+from holls.prover.polynomials import total
+from holls.prover.shown import Shown
+from tests import prover_goals
+from tests.helpers import BUILT
+
+
+def chain(number):
+    """That an order goes from the first of so many variables to the last."""
+    return "%s ==> lt x0 x%d" % (" /\\ ".join("lt x%d x%d" % (at, at + 1) for at in range(number)), number)
+
+
+class Linear(unittest.TestCase):
+    def test_what_is_refuted_has_no_values(self):
+        chance = random.Random(7)
+        refuted = 0
+        for _ in range(300):
+            constraints = []
+            for _ in range(chance.randrange(1, 5)):
+                made = {(0,): chance.randrange(-3, 4), (1,): chance.randrange(-3, 4), (): chance.randrange(-6, 4)}
+                constraints.append({monomial: value for monomial, value in made.items() if value})
+            found = linear.refutation(constraints, [1] * len(constraints))
+            holds = [all(one.get((0,), 0) * x + one.get((1,), 0) * y + one.get((), 0) >= 0 for one in constraints)
+                     for x in range(25) for y in range(25)]
+            if found is None:
+                self.assertIsNotNone(linear.vertex(constraints))
+                continue
+            refuted += 1
+            self.assertFalse(any(holds))
+            summed = {}
+            for at, factor in found.inequalities:
+                summed = total(summed, constraints[at], factor)
+            for monomial, factor in found.monomials:
+                summed = total(summed, {monomial: factor})
+            self.assertEqual([monomial for monomial in summed if monomial], [])
+            self.assertLess(summed[()], 0)
+        self.assertGreater(refuted, 50)
+
+    def test_a_cut_leaves_out_no_whole_numbers(self):
+        constraints = [{(0,): 2, (1,): -2, (): -1}, {(0,): -2, (1,): 2, (): 1}]
+        self.assertIsNone(linear.refutation(constraints, [1, 1]))
+        cuts = linear.cuts(constraints)
+        self.assertIsNotNone(linear.refutation(constraints + cuts, [1] * (len(cuts) + 2)))
+        self.assertEqual(polynomials.tightened({(0,): 4, (): -3}), {(0,): 1, (): -1})
+
+
+class Models(unittest.TestCase):
+    def stored(self, name):
+        """The goals of a file, as terms."""
+        lines = (prover_goals.CLIENTS / "tests" / "goals" / name).read_text(encoding="utf-8").splitlines()
+        return [reading.term(line.split(" ", 1)[1], reading.Signature(), ty=typed.BOOL) for line in lines if not line.startswith("#")]
+
+    def test_what_has_no_proof_has_a_small_model_and_what_has_one_has_none(self):
+        for term in self.stored("unprovable.txt"):
+            self.assertIsNotNone(models.countermodel(Shown((), term, {}), clock.now() + 60.0), term)
+        for term in self.stored("pelletier.txt") + self.stored("equations.txt"):
+            self.assertIsNone(models.countermodel(Shown((), term, {}), clock.now() + 0.2), term)
+
+    def test_values_are_said_as_what_they_are(self):
+        signature = reading.Signature()
+        assumed = reading.term("!x:A. (R:A->A->bool) x (f x) /\\ ~(f x = x)", signature, ty=typed.BOOL)
+        free = {"f": typed.fun("A", "A"), "R": typed.fun("A", typed.fun("A", typed.BOOL))}
+        shown = Shown((assumed,), reading.term("?x:A. (R:A->A->bool) x x \\/ p", signature, free, typed.BOOL), {})
+        found = dict(models.countermodel(shown, clock.now() + 60.0))
+        self.assertEqual(found, {"A": "{0, 1}", "R": "{(0, 1), (1, 0)}", "f": "(0 -> 1, 1 -> 0)", "p": "F"})
+
+    def test_other_constants_and_types_have_no_models_here(self):
+        known = reading.Signature()
+        known.constants["c"], known.constructors["num"] = "A", 0
+        for text in ("c = (x:A)", "(x:num) = y", "(@x:A. P x) = y", "(P:((A->A)->A->A)->bool) = Q"):
+            self.assertIsNone(models.countermodel(Shown((), reading.term(text, known, ty=typed.BOOL), {}), clock.now() + 5.0), text)
+
+
+@unittest.skipUnless(BUILT.exists(), "hol_serve isn't built")
+class OverTheLibrary(unittest.TestCase):
+    @classmethod
+    def setUpClass(cls):
+        clock.use(time.process_time)
+        cls.library = prover_goals.Library()
+
+    @classmethod
+    def tearDownClass(cls):
+        cls.library.stop()
+        clock.use(time.monotonic)
+
+    def found(self, text, seconds=30.0):
+        """The steps for a goal, which the program has accepted."""
+        return self.library.prove(prover_goals.Stated("", [], text), False, seconds)
+
+    def shares(self, kind, is_named, least, most_seconds):
+        """That at least a share of a kind's sample is found, in the median within some seconds of this process's own."""
+        goals = [goal for goal in prover_goals.stored([kind], False) if not is_named or self.library.has_named(goal)]
+        results = [self.library.prove(goal, is_named) for goal in goals]
+        times = sorted(one.seconds for one in results if one.steps) or [0.0]
+        missed = "\n".join(one.goal.text for one in results if not one.steps)
+        self.assertGreaterEqual(sum(bool(one.steps) for one in results), least * len(results), missed)
+        self.assertLess(times[len(times) // 2], most_seconds)
+
+    def test_arithmetic(self):
+        self.shares("ARITH", False, 0.95, 1.0)
+
+    def test_tautologies(self):
+        self.shares("TAUT", False, 0.95, 1.0)
+
+    def test_logic_with_what_is_named(self):
+        self.shares("MESON", True, 0.85, 1.0)
+
+    def test_logic_with_nothing_named(self):
+        self.shares("MESON", False, 0.6, 1.0)
+
+    def test_sets(self):
+        self.shares("SET", False, 0.8, 1.0)
+
+    def test_rewriting_with_what_is_named(self):
+        self.shares("REWRITE", True, 0.7, 1.0)
+
+    def test_sums_of_forty_parts_and_products(self):
+        found = self.found(chain(40))
+        self.assertTrue(found.steps)
+        self.assertLess(found.seconds, 1.0)
+        for text in ("le a b /\\ le c d ==> le (mult a c) (mult b d)", "~(m = _0) /\\ ~(n = _0) ==> lt _0 (mult m n)",
+                     "le m n ==> le (EXP m (BIT0 _1)) (EXP n (BIT0 _1))",
+                     "lt (mult a c) (mult b c) ==> lt a b",
+                     "EXP (add a b) (BIT0 _1) = add (add (EXP a (BIT0 _1)) (mult (mult (BIT0 _1) a) b)) (EXP b (BIT0 _1))",
+                     "lt ((f:A->num) n) (f m) /\\ le (f m) k ==> lt (f n) k"):
+            self.assertTrue(self.found(text).steps, text)
+
+    def test_false_goals_end_with_numbers(self):
+        for text, wanted in (
+                ("lt a b ==> lt b a", {"a": 0, "b": 1}), ("le (mult m n) (add m n)", {"m": 2, "n": 3}), ("!n. EVEN n \\/ lt n (BIT0 _1)", {"n": 3}),
+                ("p \\/ sub m n = sub n m", {"m": 0, "n": 1, "p": False}), ("DIV (add m n) (BIT0 _1) = add (DIV m (BIT0 _1)) (DIV n (BIT0 _1))", {"m": 1, "n": 1})):
+            report = self.library.asker.step("g GOAL `%s`" % text)
+            finder = Finder(self.library.asker, self.library.scope, report, text, clock.now() + 5.0)
+            self.assertIsNone(finder.find(None), text)
+            self.assertEqual(finder.counterexample, wanted)
+            self.library.asker.back(self.library.count)
+
+    def test_values_are_only_of_what_can_be_evaluated(self):
+        for text in ("f n = n", "!x. P x", "?n. lt n m", "x:A = y"):
+            term = reading.term(text, self.library.scope.signature, ty=typed.BOOL)
+            self.assertIsNone(counterexamples.counterexample(Shown((), term, {}), clock.now() + 5.0), text)

@@ -1,0 +1,232 @@
+"""Ways to a proof: theorems that say a goal, premises, orders of rules, inductions; imports that are offered; and the server that is kept."""
+
+import json
+import os
+import pathlib
+import shutil
+import stat
+import subprocess
+import tempfile
+import time
+import unittest
+from unittest import mock
+
+from holls.prover import clock, induction, knowledge, orders, patterns, preparing, reading, scope, serving, typed
+from holls.prover.facts import Fact
+from holls.prover.finder import Finder
+from holls.prover.premises import Premises
+from tests import prover_goals
+from tests.helpers import BUILT, HOLLS, PYTHON, ROOT, SECONDS
+
+
+def library(*names):
+    """What stands at the end of some files of theories/ and of those that they import."""
+    found = scope.Scope()
+    for file in prover_goals.theories():
+        if not names or file.theory.name in names:
+            found.add_file(file)
+    return found
+
+
+LOGIC = ("logic", "functions", "pairs", "numbers", "arithmetic", "sets", "lists", "relations")
+
+
+class Theorems(unittest.TestCase):
+    @classmethod
+    def setUpClass(cls):
+        cls.scope = library(*LOGIC)
+        cls.known = knowledge.Knowledge(cls.scope)
+
+    def read(self, text):
+        """The term of a text."""
+        return reading.term(text, self.scope.signature, ty=typed.BOOL)
+
+    def test_a_theorem_has_a_pattern_for_each_conclusion(self):
+        found = patterns.patterns(self.read("!x:A. P x ==> (!y. Q x y) /\\ ~R x"))
+        self.assertEqual([[kind for kind, _ in one.path] for one in found], [["spec", "premise", "left", "spec"], ["spec", "premise", "right"]])
+        binding = patterns.Binding()
+        self.assertTrue(binding.match(found[1].conclusion, self.read("~R (f a:A)")))
+        self.assertEqual(binding.instance(found[1].premises[0]), self.read("(P:A->bool) (f a)"))
+        self.assertFalse(patterns.Binding().match(found[1].conclusion, self.read("R (a:A):bool")))
+
+    def test_rules_that_end(self):
+        for name, wanted in (("ADD_CLAUSES", True), ("MULT", True), ("EXP", True), ("REVERSE_APPEND", True), ("MEM", True), ("ADD_SYM", False),
+                             ("ADD_ASSOC", False), ("UNION_COMM", False), ("IN_UNION", True), ("RTC_CASES_R", False)):
+            self.assertEqual(self.known.is_decreasing(name), wanted, name)
+        order = orders.Order({"c": 0, "f": 0})
+        names = {name: ("c", name, typed.fun("A", "A")) for name in "cf"}
+        x = ("v", "x", "A")
+        f, c = (lambda term: ("a", names["f"], term)), (lambda term: ("a", names["c"], term))
+        self.assertTrue(order.decreases(f(x), c(c(x))))
+        self.assertFalse(order.decreases(c(x), f(x)))
+        self.assertFalse(order.decreases(f(x), c(("v", "y", "A"))))
+        self.assertFalse(order.decreases(x, x))
+
+    def test_rare_constants_choose_premises(self):
+        facts = [Fact(name, self.read(text)) for name, text in (
+            ("COMMON", "!m n. add m n = add n m"), ("OTHER", "!n. add n _0 = n"), ("RARE", "!l:A list. LENGTH (REVERSE l) = LENGTH l"),
+            ("FAR", "!s:A->bool. UNION s s = s"))]
+        chosen = Premises(facts, frozenset(reading.PRELUDE)).chosen([self.read("LENGTH (REVERSE (l:A list)) = add _0 (LENGTH l)")], 3)
+        self.assertEqual(chosen[0], "RARE")
+        self.assertNotIn("FAR", chosen)
+
+    def test_theorems_of_induction(self):
+        found = {one.name: one for name in self.scope.theorems for one in induction.of(name, self.scope.theorems[name])}
+        for name, cases, is_whole, guard in (("NUM_INDUCT", 2, True, None), ("LIST_INDUCT", 2, True, None), ("TC_INDUCT", 2, False, "TC"),
+                                             ("FINITE_INDUCT_STRONG", 2, False, "FINITE"), ("pair_INDUCT", 1, False, None)):
+            one = found[name]
+            self.assertEqual((one.cases, one.is_whole, one.guard and patterns.head(one.guard)), (cases, is_whole, guard), name)
+        self.assertNotIn("ADD_CLAUSES", found)
+
+    def test_what_is_computed_and_what_sets_have(self):
+        self.assertEqual(self.known.clauses["LENGTH"], ["LENGTH"])
+        self.assertEqual(self.known.clauses["add"], ["ADD_CLAUSES"])
+        self.assertEqual(self.known.members["UNION"], "IN_UNION")
+        goal = [self.read("SUBSET (INTER s t) (s:A->bool)")]
+        self.assertEqual(self.known.membership(goal), ["IN_INTER", "EXTENSION", "SUBSET", "IN"])
+        self.assertEqual(self.known.membership([self.read("add m n = n")]), [])
+
+    def test_what_holds_of_conditionals_and_abstractions(self):
+        said = preparing.conditionals([self.read("!x. f (COND (P x) (x:A) y) = y")])
+        self.assertEqual(len(said), 1)
+        self.assertEqual(said[0], self.read("!x. (P x ==> COND (P x) (x:A) y = x) /\\ (~P x ==> COND (P x) x y = y)"))
+        self.assertEqual(preparing.members([self.read("FINITE (\\x:A. P x /\\ IN x s)")]), [self.read("!x. IN x (\\x:A. P x /\\ IN x s) <=> P x /\\ IN x s")])
+        self.assertEqual(preparing.members([self.read("!x:A. P x")]), [])
+
+
+@unittest.skipUnless(BUILT.exists(), "hol_serve isn't built")
+class OverTheLibrary(unittest.TestCase):
+    @classmethod
+    def setUpClass(cls):
+        clock.use(time.process_time)
+        cls.library = prover_goals.Library()
+
+    @classmethod
+    def tearDownClass(cls):
+        cls.library.stop()
+        clock.use(time.monotonic)
+
+    def test_inductions(self):
+        for text in ("!l:A list. REVERSE (REVERSE l) = l", "!n x. LENGTH (REPLICATE n (x:A)) = n", "!(R:A->A->bool) x y. TC R x y ==> RTC R x y",
+                     "!n. EVEN (mult n (SUC n))", "!l (x:A). MEM x (APPEND l m) <=> MEM x l \\/ MEM x m"):
+            self.assertTrue(self.library.prove(prover_goals.Stated("", [], text), False, 30.0).steps, text)
+
+    def test_each_part_of_a_conjunction_goes_its_own_way(self):
+        goal = prover_goals.Stated("", [], "!l m:A list. LENGTH (APPEND l m) = add (LENGTH l) (LENGTH m) /\\ (IN (x:B) s ==> UNION (INSERT x EMPTY) s = s)")
+        found = self.library.prove(goal, False, 8.0)
+        self.assertTrue(found.steps)
+        self.assertIn("CONJ_TAC", found.steps[0])
+
+    def test_conditions_are_shown(self):
+        goal = prover_goals.Stated("", ["SUB_ADD"], "le n m /\\ (P:num->bool) m ==> P (add (sub m n) n)")
+        self.assertTrue(self.library.prove(goal, True, 30.0).steps)
+
+    def test_a_goal_is_made_simpler_where_it_is_not_closed(self):
+        for text, wanted in (("(P:num->bool) (LENGTH (APPEND (CONS x NIL) (l:A list)))", "P (SUC (LENGTH l))"),
+                             ("(Q:A list->bool) (REVERSE (REVERSE l))", "Q l"), ("(P:num->bool) m", None)):
+            report = self.library.asker.step("g GOAL `%s`" % text)
+            finder = Finder(self.library.asker, self.library.scope, report, text, clock.now() + 10.0)
+            found = finder.simplify()
+            for step in found or []:
+                report = self.library.asker.step(step)
+            self.assertEqual((found is None, report.goals[0].conclusion), (wanted is None, wanted or "P m"))
+            self.library.asker.back(self.library.count)
+
+    def test_named_theorems_are_in_no_step_that_needs_none(self):
+        found = self.library.prove(prover_goals.Stated("", [], "!(x:A) s t. IN x s /\\ SUBSET s t ==> ~(t = EMPTY)"), False, 30.0)
+        self.assertIn("REWRITE_TAC [", found.steps[0])
+        self.assertNotIn("IN_DELETE", " ".join(found.steps))
+
+
+class Sockets(unittest.TestCase):
+    def setUp(self):
+        self.folder = tempfile.mkdtemp()
+        self.addCleanup(shutil.rmtree, self.folder, True)
+        patch = mock.patch.dict(os.environ, {"XDG_RUNTIME_DIR": self.folder})
+        patch.start()
+        self.addCleanup(patch.stop)
+
+    def test_a_socket_is_the_users_alone(self):
+        listener = serving.Listener(serving.address("/some/project", ["program"]), lambda request: {"said": request["word"]})
+        self.addCleanup(listener.close)
+        self.assertEqual(stat.S_IMODE(os.stat(serving.folder()).st_mode), 0o700)
+        self.assertEqual(stat.S_IMODE(os.stat(listener.path).st_mode), 0o600)
+        self.assertEqual(serving.ask(listener.path, {"word": "x"}, SECONDS), {"said": "x"})
+        self.assertNotEqual(serving.address("/some/project", ["other"]), listener.path)
+        again = serving.Listener(listener.path, lambda request: {})
+        self.assertTrue(again.is_taken)
+        listener.close()
+        self.assertIsNone(serving.ask(listener.path, {"word": "x"}, 1.0))
+
+    def test_a_folder_of_others_is_refused(self):
+        os.mkdir(os.path.join(self.folder, "holls"))
+        os.chmod(os.path.join(self.folder, "holls"), 0o755)
+        with self.assertRaises(serving.Unsafe):
+            serving.folder()
+        shutil.rmtree(os.path.join(self.folder, "holls"))
+        os.symlink("/tmp", os.path.join(self.folder, "holls"))
+        with self.assertRaises(serving.Unsafe):
+            serving.folder()
+
+    def test_what_is_no_request_ends_nothing(self):
+        listener = serving.Listener(serving.address("/p", []), lambda request: {"n": len(request)})
+        self.addCleanup(listener.close)
+        for odd in ([], 7, "x" * 70_000):
+            self.assertIsNone(serving.ask(listener.path, odd, SECONDS))
+        self.assertEqual(serving.ask(listener.path, {}, SECONDS), {"n": 0})
+
+    def test_a_socket_that_nobody_answers_at_is_taken_over(self):
+        path = serving.address("/p", [])
+        pathlib.Path(path).write_text("")
+        listener = serving.Listener(path, lambda request: {"n": 1})
+        self.addCleanup(listener.close)
+        self.assertEqual(serving.ask(path, {}, SECONDS), {"n": 1})
+
+
+@unittest.skipUnless(BUILT.exists(), "hol_serve isn't built")
+class Commands(unittest.TestCase):
+    """`holls prove` in a project of a few files of the library."""
+
+    def setUp(self):
+        self.folder = pathlib.Path(tempfile.mkdtemp())
+        self.addCleanup(shutil.rmtree, str(self.folder), True)
+        for name in ("logic", "numbers", "arithmetic", "linear"):
+            shutil.copy(str(ROOT / "theories" / (name + ".hol")), str(self.folder))
+        (self.folder / "mine.hol").write_text("import arithmetic;;\ng A `le m n ==> lt (sub m n) (add (mult k k) _1)`;;\n\ng B `add m n = add n m`;;\n")
+        (self.folder / "over.hol").write_text("import mine;;\n")
+        self.environment = dict(os.environ, XDG_RUNTIME_DIR=str(self.folder))
+
+    def prove(self, place, *words):
+        """The status and output of `holls prove`."""
+        given = [*PYTHON, str(HOLLS), "prove", "%s:%s" % (self.folder / "mine.hol", place), "--server", str(BUILT), "--seconds", "30", *words]
+        done = subprocess.run(given, capture_output=True, timeout=SECONDS, text=True, env=self.environment)
+        return done.returncode, done.stdout + done.stderr
+
+    def test_an_import_is_offered_with_steps(self):
+        status, said = self.prove(2, "--json", "--arith")
+        found = json.loads(said)
+        self.assertEqual((status, found["imports"]), (0, ["linear"]))
+        text = "import arithmetic;;\nimport linear;;\ng A `le m n ==> lt (sub m n) (add (mult k k) _1)`;;\n%s;;\nqed;;\n" % ";;\n".join(found["steps"])
+        (self.folder / "mine.hol").write_text(text)
+        done = subprocess.run([*PYTHON, str(HOLLS), "check", str(self.folder / "mine.hol"), "--server", str(BUILT)], capture_output=True, text=True)
+        self.assertEqual(done.returncode, 0, done.stdout)
+
+    def test_no_import_where_none_is_needed(self):
+        status, said = self.prove(4, "--json")
+        self.assertEqual((status, list(json.loads(said))), (0, ["steps"]))
+
+    def test_a_server_that_is_kept(self):
+        given = [*PYTHON, str(HOLLS), "prove", "--serve", str(self.folder), "--server", str(BUILT)]
+        kept = subprocess.Popen(given, stdin=subprocess.PIPE, stdout=subprocess.PIPE, text=True, env=self.environment)
+        try:
+            self.assertEqual(kept.stdout.readline(), "holls: ready\n")
+            first, second = self.prove(4, "--json"), self.prove(4, "--json")
+            self.assertEqual((first, second[0]), (second, 0))
+            self.assertEqual(self.prove(1)[0], 2)
+            again = subprocess.run(given, capture_output=True, text=True, env=self.environment, stdin=subprocess.DEVNULL, timeout=SECONDS)
+            self.assertEqual(again.returncode, 2)
+        finally:
+            kept.communicate()
+        self.assertEqual([path.name for path in (self.folder / "holls").iterdir()], [])
+        self.assertEqual(self.prove(4, "--json"), first)
+

@@ -1,0 +1,252 @@
+"""`holls repl`: what a line does, when it is whole, what Tab offers; and the prompt in a terminal, where Ctrl-C stops a step alone."""
+
+import os
+import pathlib
+import pty
+import re
+import select
+import subprocess
+import tempfile
+import time
+import unittest
+
+from holls.api import Project, Prover, State
+from holls.protocol import Goal
+from holls.repl import is_whole
+from holls.repl_completion import Completer
+from holls.repl_session import Session, Wrong
+from holls.repl_show import Show
+from tests.helpers import BUILT, HOLLS, PYTHON, ROOT, SECONDS, fake
+
+PATIENT = 120.0
+_COLOURS = re.compile(r"\x1b\[[0-9;?]*[a-zA-Z]")
+
+
+class Lines(unittest.TestCase):
+    def test_a_line_is_whole_where_nothing_is_open_and_no_word_waits(self):
+        for text in ("g `p`", "e CONJ_TAC", "e CONJ_TAC;;", "", "b", "e (CONJ_TAC THEN ALL_TAC)", "e THEN;;", "(* a *) qed", "p", "import logic"):
+            self.assertTrue(is_whole(text), text)
+        for text in ("g `p /\\", "e CONJ_TAC THEN", "e (CONJ_TAC", "e REWRITE_TAC [A;", "(* a", "e", "g", "e REPEAT", "new_definition D `c =\n"):
+            self.assertFalse(is_whole(text), text)
+
+
+class OverTheFakeServer(unittest.TestCase):
+    def setUp(self):
+        folder = tempfile.TemporaryDirectory()
+        self.addCleanup(folder.cleanup)
+        self.folder = pathlib.Path(folder.name)
+        self.prover = Prover(fake(self.folder), seconds=PATIENT)
+        self.addCleanup(self.prover.close)
+        (self.folder / "Base.hol").write_text("new_axiom AX `a`;;\n")
+        self.session = Session(self.prover, Project.each(self.prover, str(self.folder)))
+
+    def run_all(self, *lines):
+        """What the last of some lines comes to, of which all are accepted."""
+        for line in lines:
+            told = self.session.run(line)
+            self.assertIsNone(told.refused, line)
+        return told
+
+    def goals(self):
+        """The conclusions of the open goals."""
+        return [goal.conclusion for goal in self.session.state.goals]
+
+    def test_a_proof_with_steps_back(self):
+        self.run_all("g SPLIT `a = a /\\ b = b`", "e CONJ_TAC")
+        self.assertEqual(self.goals(), ["a = a", "b = b"])
+        self.run_all("e REFL_TAC", "b")
+        self.assertEqual(self.goals(), ["a = a", "b = b"])
+        refused = self.session.run("e CONJ_TAC").refused
+        self.assertEqual(refused.number, 17)
+        self.assertEqual(self.goals(), ["a = a", "b = b"])
+        self.run_all("e REFL_TAC", "e REFL_TAC")
+        self.assertIn("SPLIT |- a = a /\\ b = b", self.run_all("qed").text)
+        self.assertEqual(self.session.theory.text, "\n\ng SPLIT `a = a /\\ b = b`;;\ne CONJ_TAC;;\ne REFL_TAC;;\ne REFL_TAC;;\nqed;;\n".lstrip())
+        self.assertIsNone(self.session.state)
+
+    def test_what_hol_light_users_type(self):
+        self.run_all("g`a = a /\\ b = b`", "e CONJ_TAC", "b ()", "p()", "e CONJ_TAC", "b()")
+        self.assertEqual(self.goals(), ["a = a /\\ b = b"])
+        self.run_all("e CONJ_TAC", "e REFL_TAC", "e REFL_TAC")
+        self.assertIn("GOAL |- ", self.run_all("top_thm()").text)
+        self.assertIn("GOAL2", self.run_all("g `c = c`", "history").text)
+
+    def test_undo_opens_the_proof_again_for_another_name(self):
+        self.run_all("g `a = a`", "e REFL_TAC", "qed", "undo", "qed MINE")
+        self.assertEqual([one.name for one in self.session.theory.theorems()], ["MINE"])
+        self.run_all("undo", "oops")
+        self.assertEqual(self.session.theory.text.strip(), "")
+        with self.assertRaises(Wrong):
+            self.session.run("undo")
+
+    def test_commands_outside_of_proofs_and_imports(self):
+        self.assertEqual(self.run_all("new_axiom B `b`").text, "thm B |- b")
+        self.assertEqual(self.session.run("new_axiom B `b`").refused.number, 10)
+        self.run_all("import Base")
+        self.assertEqual([one.name for one in self.session.theory.theorems()], ["B", "AX"])
+        with self.assertRaisesRegex(Wrong, "no theory Nothing: there are Base"):
+            self.session.run("import Nothing")
+        self.run_all("g `c = c`", "e ALL_TAC")
+        for line in ("import Base", "new_axiom C `c`", "undo", "g `d = d`"):
+            with self.assertRaisesRegex(Wrong, "the proof of GOAL is open"):
+                self.session.run(line)
+
+    def test_lines_that_are_none(self):
+        for line in ("foo", "e REFL_TAC", "b", "qed", "oops", "p", "g", "g a", "g `a", "r x"):
+            with self.assertRaises(Wrong):
+                self.session.run(line)
+        with self.assertRaisesRegex(Wrong, "perhaps save does"):
+            self.session.run("sav x")
+        self.run_all("g `a = a`")
+        for line in ("b 2", "b x", "r 0", "r 99999", "qed 1x", "save"):
+            with self.assertRaises(Wrong):
+                self.session.run(line)
+
+    def test_save_writes_what_was_accepted_and_over_nothing_else(self):
+        path = self.folder / "mine.hol"
+        self.run_all("new_axiom B `b`", "g `a = a`", "save " + str(self.folder / "mine"))
+        self.assertEqual(path.read_text(), "new_axiom B `b`;;\n")
+        self.assertTrue(self.session.is_saved)
+        self.run_all("e REFL_TAC", "qed")
+        self.assertFalse(self.session.is_saved)
+        self.run_all("save " + str(path))
+        path.write_text("(* by hand *)\n")
+        with self.assertRaisesRegex(Wrong, "something else"):
+            self.session.run("save " + str(path))
+        self.assertEqual(path.read_text(), "(* by hand *)\n")
+        self.run_all("save! " + str(path))
+        with self.assertRaises(Wrong):
+            self.session.run("save /nowhere/at/all.hol")
+
+    def test_a_file_to_go_on_with(self):
+        projects = Project.each(self.prover, str(self.folder))
+        session = Session(self.prover, projects, projects[0].files["Base"])
+        session.run("g `a = a`")
+        session.run("e REFL_TAC")
+        session.run("qed A")
+        self.assertEqual(session.theory.text, "new_axiom AX `a`;;\n\ng A `a = a`;;\ne REFL_TAC;;\nqed;;\n")
+        self.assertEqual(session.theory.name, "Base")
+
+    def test_search_finds_what_stands(self):
+        self.run_all("import Base")
+        self.assertEqual(self.run_all("search ax").text, "AX |- a")
+        self.assertEqual(self.run_all("search nothing").text, "nothing was found")
+        with self.assertRaises(Wrong):
+            self.session.run("search (_ =")
+
+    def test_completions(self):
+        self.run_all("import Base", "new_axiom LONG_NAME `a`")
+
+        def offered(line):
+            begin = max(line.rfind(" "), line.rfind("["), line.rfind("(")) + 1
+            return Completer(self.session, lambda: (line, begin)).words(line[begin:])
+
+        self.assertIn("qed ", offered("q"))
+        self.assertEqual(offered("import B"), ["Base"])
+        self.assertEqual(offered("e REWRITE_TAC [LONG"), ["LONG_NAME"])
+        self.assertIn("CONJ_TAC", offered("e CONJ"))
+        self.assertIn("CONJ_TAC", offered("e ALL_TAC THEN (CONJ"))
+        self.assertEqual(offered("search LONG"), ["LONG_NAME"])
+        self.assertEqual(offered("save " + str(self.folder / "Ba")), [str(self.folder / "Base.hol")])
+        self.assertEqual(offered("nothing at all"), [])
+        completer = Completer(self.session, lambda: 1 / 0)
+        self.assertIsNone(completer.complete("x", 0))
+
+    def test_a_refusal_is_shown_with_its_place_and_goals_with_the_first_one_last(self):
+        self.run_all("g `a = a /\\ b = b`")
+        shown = Show(False).refused(self.session.run("e ALL_TAC2").refused)
+        self.assertEqual(shown.splitlines()[:2], ["e ALL_TAC2", "  ^^^^^^^^"])
+        self.run_all("e CONJ_TAC")
+        self.assertEqual(Show(False).goals(self.session.state), "2 goals, the first one last\n\n`b = b`\n\n`a = a`\n")
+        self.assertIn("\x1b[1m`a = a`", Show(True).goals(self.session.state))
+        proof = self.session.proof
+        many = State(proof, proof.state.path, proof.state.written, tuple(Goal(("p",), (), str(at)) for at in range(20)))
+        self.assertIn("15", Show(False).goals(many))
+        self.assertIn("  0 [`p`]", Show(False).goals(many))
+
+
+class AsAProgram(unittest.TestCase):
+    def setUp(self):
+        folder = tempfile.TemporaryDirectory()
+        self.addCleanup(folder.cleanup)
+        self.folder = pathlib.Path(folder.name)
+        self.environment = dict(os.environ, XDG_STATE_HOME=str(self.folder / "state"), TERM="xterm", HOME=str(self.folder))
+
+    def test_lines_from_a_pipe_and_the_status(self):
+        words = [*PYTHON, str(HOLLS), "repl", "--server", fake(self.folder)]
+        for text, status in (("g `a = a`;; e REFL_TAC;;\nqed A;;\nsave A.hol\n", 0), ("g `a = a`\ne CONJ_TAC\n", 1), ("", 0)):
+            done = subprocess.run(words, input=text.encode(), cwd=self.folder, capture_output=True, timeout=SECONDS, env=self.environment)
+            self.assertEqual((done.returncode, done.stderr), (status, b""))
+            self.assertNotIn(b"\x1b", done.stdout)
+        self.assertEqual((self.folder / "A.hol").read_text(), "g A `a = a`;;\ne REFL_TAC;;\nqed;;\n")
+        done = subprocess.run([*PYTHON, str(HOLLS), "repl", "none.hol"], cwd=self.folder, capture_output=True, timeout=SECONDS)
+        self.assertEqual(done.returncode, 2)
+
+    def test_a_terminal_with_a_step_that_is_stopped(self):
+        pid, terminal = pty.fork()
+        if not pid:
+            os.chdir(self.folder)
+            os.execve(PYTHON[0], [*PYTHON, str(HOLLS), "repl", "--server", fake(self.folder)], self.environment)
+        self.addCleanup(os.close, terminal)
+        self.shown = ""
+        self.until(terminal, "# ")
+        for line, answer in (("g `loop /\\ b = b`", "`loop /\\ b = b`"), ("e CONJ_TAC", "`loop`"), ("e REFL_TAC", "refused")):
+            os.write(terminal, line.encode() + b"\r")
+            self.until(terminal, answer)
+        os.write(terminal, b"e HANG_TAC\r")
+        self.until(terminal, "HANG_TAC")
+        time.sleep(0.5)
+        os.write(terminal, b"\x03")
+        self.until(terminal, "stopped")
+        os.write(terminal, b"p\r")
+        self.until(terminal, "`loop`")
+        os.write(terminal, b"e AL\t\r")
+        self.until(terminal, "ALL_TAC")
+        os.write(terminal, b"oops\rnew_axiom B `b`\r")
+        self.until(terminal, "thm B |- b\r\n# ")
+        os.write(terminal, b"\x04")
+        self.until(terminal, "not saved yet")
+        os.write(terminal, b"\x04")
+        status = os.waitpid(pid, 0)[1]
+        self.assertEqual(os.waitstatus_to_exitcode(status) if hasattr(os, "waitstatus_to_exitcode") else status >> 8, 0)
+        self.assertTrue((self.folder / "state" / "holls" / "history").exists())
+
+    def until(self, terminal, text):
+        """Reads until the terminal shows a text."""
+        begun = time.monotonic()
+        while text not in _COLOURS.sub("", self.shown):
+            self.assertLess(time.monotonic() - begun, PATIENT, self.shown)
+            if select.select([terminal], [], [], 1)[0]:
+                self.shown += os.read(terminal, 4096).decode("utf-8", "replace")
+        shown = _COLOURS.sub("", self.shown)
+        self.shown = shown[shown.index(text) + len(text):]
+
+
+@unittest.skipUnless(BUILT.exists(), "hol_serve isn't built")
+class OverTheProgram(unittest.TestCase):
+    def test_a_new_users_first_minutes(self):
+        with Prover(str(BUILT), seconds=PATIENT) as prover:
+            session = Session(prover, Project.each(prover, str(ROOT / "theories")))
+            self.addCleanup(session.close)
+            for line in ("import lists", "g `!l:A list. APPEND l NIL = l`", "e MATCH_MP_TAC LIST_INDUCT THEN BETA_TAC", "e REWRITE_TAC [APPEND_NIL]",
+                         "b", "e REWRITE_TAC [APPEND] THEN REPEAT STRIP_TAC", "e ASM_REWRITE_TAC []", "qed APPEND_NIL_AGAIN"):
+                told = session.run(line)
+                self.assertIsNone(told.refused, line)
+            self.assertIn("def:APPEND", told.text)
+            self.assertIn("APPEND_NIL_AGAIN |- ", session.run("search APPEND _ NIL").text)
+            self.assertIn("def:APPEND", session.run("basis APPEND_NIL_AGAIN").text)
+            session.run("g `p /\\ q ==> q /\\ (p \\/ r)`")
+            self.assertIsNone(session.run("e(ALL_TAC THEN ALL_TAC)").refused)
+            told = session.run("prove")
+            self.assertTrue(told.goals.is_proved, told)
+            session.run("qed FOUND")
+            self.assertTrue(session.theory.check().is_accepted)
+            self.assertEqual(session.run("new_definition D `c = x`").refused.number, 11)
+            session.run("g `(!x:A. P x) /\\ Q`")
+            session.run("e CONJ_TAC")
+            session.run("r 1")
+            self.assertEqual(session.state.goal.conclusion, "Q")
+
+
+if __name__ == "__main__":
+    unittest.main()

@@ -1,0 +1,5 @@
+use Rattle.hol_model.proofs.Consistency.{prelude_consistent}
+use Rattle.hol_model.proofs.laws.falsity_needs_infinity.Goals as goal
+
+pub returns : goal.returns
+returns c = prelude_consistent

@@ -1,0 +1,3 @@
+pub mod Infinity
+pub mod Leaves
+pub mod Universe
