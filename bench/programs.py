@@ -4,8 +4,9 @@
     python3 bench/programs.py --check       whether they compile, as `rt try` reads them: some two minutes, and no proof
     python3 bench/programs.py --prove OUT   proves them and what they stand on, and leaves each at OUT/NAME, for kernel.py and its like
 
-Both work in a copy of the tree as git lists it, in a temporary folder, in which the programs stand beside the crates. Their sources end with .txt here, since
-`rt ci` refuses a tree with sources that none of its checks reads, or with a second crates.txt (programs.txt here); the copy has them without it. Status 0 where all went well.
+Both work in a copy of the tree as git lists it, in a temporary folder, in which the programs stand beside the crates. Their sources end with .txt here, and
+their list is programs.txt, since `rt ci` refuses a tree with sources that none of its checks reads or with a second crates.txt; the copy has them without it.
+Status 0 where all went well.
 Needs Python 3.8 and `rt` on the PATH."""
 
 import argparse
