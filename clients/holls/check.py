@@ -14,7 +14,7 @@ from holls.checking import Basis, Unit
 from holls.files import File
 from holls.findings import Finding, Severity, findings
 from holls.manual import PRELUDE
-from holls.projects import SUFFIX, Projects
+from holls.projects import LIBRARY, SUFFIX, Projects
 from holls.protocol import Made
 from holls.say import complain, say
 
@@ -37,7 +37,9 @@ def add_words(parser: argparse.ArgumentParser) -> None:
     parser.add_argument("--within", action="append", default=[], metavar="DIR",
                         help="take no theory from outside of this folder, whatever a project file says; may be given again")
     parser.add_argument("--quiet", action="store_true", help="write nothing of a file in which all is accepted")
-    parser.add_argument("--json", action="store_true", help="one JSON object a line")
+    parser.add_argument("--json", action="store_true", help="one JSON object a line: as --format json")
+    parser.add_argument("--format", choices=("text", "json", "github"), default="text",
+                        help="lines for people (text), one JSON object a line, or what GitHub shows at the lines of a change")
     parser.add_argument("--seconds", type=int, default=120, help="how long one command may take (120)")
     farm.add_words(parser)
 
@@ -47,6 +49,8 @@ def main(given: argparse.Namespace) -> int:
     try:
         units = farm.named(given, checking.units(ordered(given.files, given.within)))
         program = server.find(given.server)
+        if not given.quiet:
+            server.say_which(program, given.server)
         limited = farm.words(program, given)
         if given.ninja:
             farm.write_plan(given, units, program)
@@ -59,7 +63,7 @@ def main(given: argparse.Namespace) -> int:
     memory.recall(sent)
     left = [unit for unit in sent if unit.recalled is None]
     checking.Pool(left, limited, given.seconds, given.axioms or given.no_axioms, given.jobs).start()
-    shown = _JsonShow(given, memory) if given.json else _Show(given, memory)
+    shown = _SHOWS["json" if given.json else given.format](given, memory)
     wrong = 0
     for unit in units:
         if unit in sent:
@@ -124,7 +128,7 @@ def ordered(paths: Sequence[str], within: Sequence[str] = ()) -> Dict[str, List[
 
         named[root] = graph.ordered(graph.with_imports(own, load))
         for file in named[root]:
-            file.neighbours = project.paths
+            file.neighbours = project.with_library
     return named
 
 
@@ -201,6 +205,7 @@ class _Show:
         self.memory = memory
         self.lists_axioms, self.allows = given.axioms, set(given.allow_axiom)
         self.forbids, self.is_quiet = given.no_axioms, given.quiet
+        self._names_library = any(disk.is_within(path, LIBRARY) for path in given.files)
 
     def unit(self, unit: Unit) -> int:
         """Writes what there is to say of a file. Answers how many errors there are."""
@@ -243,12 +248,16 @@ class _Show:
     def count(self, unit: Unit, wrong: int) -> None:
         """The last line of a file; where its server failed, it isn't said that all is accepted."""
         file, has_failed = unit.file, unit.failure is not None
-        if self.is_quiet and not wrong and not has_failed:
+        if not wrong and not has_failed and (self.is_quiet or self._is_carried(file)):
             return
         outcome = _count(wrong, "error") if wrong else "not checked to the end" if has_failed else "all accepted"
         axioms = _made_by(unit, "new_axiom")
         parts = [_count(len(file.commands), "command"), _count(_made_by(unit, "qed"), "theorem")] + ([_count(axioms, "axiom")] if axioms else [])
         say("%s: %s, %s" % (file.path, ", ".join(parts), outcome))
+
+    def _is_carried(self, file: File) -> bool:
+        """Whether a file is the library's, and what is checked isn't."""
+        return not self._names_library and disk.is_within(file.path, LIBRARY)
 
     def total(self, units: Sequence[Unit], wrong: int) -> None:
         """The last line of all, where there are several files."""
@@ -289,6 +298,33 @@ class _JsonShow(_Show):
 
     def total(self, units: Sequence[Unit], wrong: int) -> None:
         """Nothing: who reads the lines can count them."""
+
+
+class _GitHubShow(_Show):
+    """As `_Show`, what there is to say of a place as a command of GitHub's workflows, which shows it there."""
+
+    def finding(self, file: File, finding: Finding, kind: str) -> None:
+        """A finding."""
+        (line, column), (last, end) = file.lines.column(finding.start), file.lines.column(finding.end)
+        more = {"endLine": last + 1, "endColumn": end + 1} if last == line else {"endLine": last + 1}
+        self._command(kind, dict({"file": file.path, "line": line + 1, "col": column + 1}, **more), finding.text)
+
+    def bad_axioms(self, file: File, basis: Basis, bad: List[str]) -> None:
+        """A theorem rests on an axiom that isn't allowed."""
+        self._command("error", {"file": file.path, "line": basis.line}, _resting(basis, bad))
+
+    @staticmethod
+    def _command(kind: str, where: Dict[str, object], text: str) -> None:
+        told = ",".join("%s=%s" % (key, _escaped(str(value), ":,")) for key, value in where.items())
+        say("::%s %s::%s" % (kind if kind in ("error", "warning") else "notice", told, _escaped(text)))
+
+
+_SHOWS = {"text": _Show, "json": _JsonShow, "github": _GitHubShow}
+
+
+def _escaped(text: str, more: str = "") -> str:
+    """A text that neither ends a command of GitHub's nor a part of one."""
+    return "".join("%%%02X" % ord(character) if character in "%\r\n" + more else character for character in text)
 
 
 def _resting(basis: Basis, bad: List[str]) -> str:

@@ -12,7 +12,7 @@ import sys
 from pathlib import Path
 from typing import Dict, Iterator, List, Sequence
 
-from holls import server
+from holls import carried, server
 from holls.checking import Basis, Unit
 from holls.findings import Finding, Severity
 from holls.limits import limited
@@ -148,17 +148,18 @@ def plan(given: argparse.Namespace, units: Sequence[Unit], program: Sequence[str
     flags += [word for name in given.allow_axiom for word in ("--allow-axiom", name)] + ["--seconds", str(given.seconds)]
     flags += [word for folder in given.within for word in ("--within", folder)]
     flags += ["--memory", str(given.memory)] if given.memory is not None else []
-    holls, folder = str(Path(__file__).resolve().parents[1] / "bin" / "holls"), given.ninja + ".d"
+    flags += ["--format", given.format] if given.format != "text" else []
+    starter, folder = carried.starter(), given.ninja + ".d"
     lines = [
         "# A target for each theory, by `holls check --ninja`. `ninja -f %s` checks those whose text, imports or program changed;" % _line(given.ninja),
         "# `-k 0` goes on behind errors. `launcher` may name a program that runs its words on another machine.",
-        "ninja_required_version = 1.3", "builddir = " + _value(folder), "launcher =", "holls = " + _value(shlex.quote(holls)),
+        "ninja_required_version = 1.3", "builddir = " + _value(folder), "launcher =", "holls = " + _value(" ".join(map(shlex.quote, starter))),
         "program = " + _value(shlex.quote(program[0])), "flags = " + _value(" ".join(map(shlex.quote, flags))), "",
         "rule check", "  command = $launcher $holls check --alone --jobs 1 --server $program $flags $in && touch $out", "  description = check $in", "",
         "rule plan", "  command = $holls check --ninja $out --server $program $flags %s" % _value(" ".join(
             ["--alone"] * given.alone + [shlex.quote(path) for path in given.files])), "  generator = 1", "",
     ]
-    fixed = [_path(program[0]), _path(holls)]
+    fixed = [_path(program[0]), *([_path(starter[-1])] if os.path.isfile(starter[-1]) else [])]
     stamps = list(_stamps(units, folder))
     for unit, stamp in zip(units, stamps):
         imports = [_path(file.path) for file in unit.imports] + _project(unit)

@@ -17,11 +17,10 @@ from http.server import BaseHTTPRequestHandler, ThreadingHTTPServer
 from pathlib import Path
 from typing import Any, Dict, List, Optional
 
-from holls import relay, server
+from holls import carried, relay, server
 from holls.websocket import WebSocket, accept_key
 
-CLONE = Path(__file__).resolve().parents[2]
-FOLDER, LIBRARY = CLONE / "page", CLONE / "theories"
+FOLDER, LIBRARY = carried.folder("page"), carried.folder("theories")
 """The page's files, and the theories that each page may import."""
 
 ADDRESS = "127.0.0.1"
@@ -200,7 +199,7 @@ def add_words(words: argparse.ArgumentParser) -> None:
 
 def _bridge(given: argparse.Namespace, program: str, library: Optional[Path]) -> List[str]:
     """The words that start a bridge for a page."""
-    words = [sys.executable, str(CLONE / "clients" / "bin" / "holls"), "lsp", "--held", "--server", program, "--seconds", str(given.seconds)]
+    words = [*carried.starter(), "lsp", "--held", "--server", program, "--seconds", str(given.seconds)]
     return words + (["--library", str(library)] if library else [])
 
 

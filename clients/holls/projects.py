@@ -10,9 +10,10 @@ from __future__ import annotations
 
 import json
 import os
+from functools import lru_cache
 from typing import Dict, List, Optional, Sequence, Tuple, Union
 
-from holls import disk
+from holls import carried, disk
 from holls.disk import Moment, changed
 
 PROJECT_FILE = "hol-project.json"
@@ -20,8 +21,8 @@ SUFFIX = ".hol"
 MOST_FILES = 10_000
 MOST_FOLDERS = 2_000
 PROJECT_FILE_BYTES = 1 << 20
-LIBRARY = os.path.join(os.path.dirname(os.path.dirname(os.path.dirname(os.path.abspath(__file__)))), "theories")
-"""The theories of this clone."""
+LIBRARY = str(carried.folder("theories"))
+"""The library: its theories are found from everywhere, where the project has none of the name."""
 
 Stamp = Dict[str, Moment]
 """Paths as they were before they were read."""
@@ -32,6 +33,8 @@ class Project:
 
     Where `within` names folders, no theory that lies outside of them is found.
     """
+
+    has_library = True
 
     def __init__(self, root: str, has_file: bool = False, within: Sequence[str] = ()) -> None:
         self.root, self.has_file, self.within = root, has_file, within
@@ -72,7 +75,7 @@ class Project:
         return found[0] if len(found) == 1 else found
 
     def _found(self, name: str) -> List[str]:
-        found = self._paths.get(name, [])
+        found = self._paths.get(name) or (_of_library(name) if self.has_library else [])
         return [path for path in found if any(disk.is_within(path, folder) for folder in self.within)] if self.within else found
 
     def missing(self, name: str) -> str:
@@ -80,26 +83,28 @@ class Project:
         found = self._found(name)
         if self._paths.get(name) and not found:
             return "the file %s lies outside of %s, which --within names" % (self._paths[name][0], " and ".join(self.within))
+        if not found and self.has_library and _of_library(name):
+            return "the theory %s is the library's, which lies outside of %s: add --within %s" % (name, " and ".join(self.within), LIBRARY)
         if found:
             return "the theory %s has several files in this project: %s; rename all but one" % (name, ", ".join(found))
         where = ", ".join(self.folders) + (" and below" if self.has_file else "")
         cut = "; of its files only %d were looked at" % MOST_FILES if len(self.paths()) >= MOST_FILES else ""
-        return "there is no file %s%s in %s%s%s" % (name, SUFFIX, where, cut, self._hint(name))
-
-    def _hint(self, name: str) -> str:
-        """Where the library has a theory of the name, how it is reached."""
-        if LIBRARY in self.folders or not os.path.isfile(os.path.join(LIBRARY, name + SUFFIX)):
-            return ""
-        folders = self.folders if self.has_file else ["."]
-        told = json.dumps({"folders": [os.path.relpath(folder, self.root) if folder != "." else "." for folder in folders] + [LIBRARY]})
-        return "; the library has it: write %s into %s" % (told, os.path.join(self.root, PROJECT_FILE))
+        return "there is no file %s%s in %s%s" % (name, SUFFIX, where, cut)
 
     def paths(self) -> List[str]:
         """All files of the project."""
         return sorted(path for found in self._paths.values() for path in found)
 
+    def with_library(self) -> List[str]:
+        """All files of the project, and those of the library whose theories can be imported here."""
+        return self.paths() + [path for name in self.importable() if name not in self._paths for path in self._found(name)]
+
+    def importable(self) -> List[str]:
+        """The theories that can be imported here."""
+        return sorted({*self._paths, *(_names_of_library() if self.has_library else ())})
+
     def names(self) -> List[str]:
-        """The theories that have a file."""
+        """The theories that have a file in the project."""
         return sorted(self._paths)
 
     def _read(self, path: str) -> None:
@@ -128,6 +133,18 @@ class Project:
         return None if missing is None else "%s: there is no folder %s" % (path, missing)
 
 
+def _of_library(name: str) -> List[str]:
+    """The library's file of a theory, if it has one."""
+    path = os.path.join(LIBRARY, name + SUFFIX)
+    return [path] if name.isidentifier() and os.path.isfile(path) else []
+
+
+@lru_cache(maxsize=1)
+def _names_of_library() -> Tuple[str, ...]:
+    """The theories of the library, which doesn't change while a client runs."""
+    return tuple(name[:-len(SUFFIX)] for name in _listed(LIBRARY)[0])
+
+
 def _is_path(name: str) -> bool:
     """Whether a file may have the name."""
     try:
@@ -138,6 +155,8 @@ def _is_path(name: str) -> bool:
 
 class Held(Project):
     """The one project of an editor that holds its files itself, as the page does: beside them stand those of a library, which never change."""
+
+    has_library = False
 
     def __init__(self, library: Optional[str]) -> None:
         super().__init__(library or "")

@@ -11,7 +11,9 @@ from dataclasses import dataclass
 from pathlib import Path
 from typing import FrozenSet, List, Optional, Union
 
-from holls import protocol
+from holls import protocol, released
+from holls.carried import CLONE
+from holls.say import complain
 
 try:
     import resource
@@ -32,7 +34,7 @@ CHUNK_BYTES = 1 << 16
 REPLY_BYTES = 1 << 28
 """A longer line is taken for no reply."""
 
-_BUILT = Path(__file__).resolve().parents[2] / "crates" / "hol_serve" / "out" / "hol_serve"
+_BUILT = CLONE / "crates" / "hol_serve" / "out" / "hol_serve"
 _PROBES = (
     ("replace", {"theory": "", "at": 0, "text": ""}),
     ("remove", {"theory": "", "at": 0}),
@@ -164,19 +166,36 @@ def _ending(status: int, complaint: bytes) -> str:
 
 
 def find(named: Optional[str] = None) -> List[str]:
-    """The program's words: as named, else as HOL_SERVE names it, else as built in this repository, else on the PATH."""
+    """The program's words: as named, else as HOL_SERVE names it, else as built in this clone, else on the PATH, else the released one."""
     name = named or os.environ.get(VARIABLE)
     if name:
         found = shutil.which(name)
         if not found:
             raise NoServer("no program is at %s (as %s names it)" % (name, "--server" if named else VARIABLE))
         return [found]
-    found = str(_BUILT) if _BUILT.is_file() else shutil.which("hol_serve")
-    if not found:
-        raise NoServer(
-            "there is no program hol_serve: build it (`cd crates/hol_serve && rt run < ../../examples/first.jsonl`, "
-            "at the top of the repository), or name it by --server FILE or by the variable " + VARIABLE)
-    return [found]
+    return [str(_BUILT) if _BUILT.is_file() else shutil.which("hol_serve") or _released()]
+
+
+def _released() -> str:
+    """The path of the released program."""
+    try:
+        release = released.release()
+        if release is not None:
+            return released.program(release)
+        why = "none is released here either"
+    except released.Unusable as error:
+        why = str(error)
+    raise NoServer("there is no program hol_serve, and %s: build it (`./build`, at the top of the repository), or name it by "
+                   "--server FILE or by the variable %s" % (why, VARIABLE))
+
+
+def say_which(program: List[str], named: Optional[str]) -> None:
+    """Tells on standard error which program is used, where nobody has named it."""
+    if named or os.environ.get(VARIABLE):
+        return
+    release = None if program[0] == str(_BUILT) else released.release()
+    is_released = release is not None and Path(program[0]).name.endswith(release.sha256[:16])
+    complain("with %s" % (release.told() if is_released else "the program %s" % os.path.relpath(program[0])))
 
 
 def probe(program: List[str], seconds: float = 120) -> FrozenSet[str]:

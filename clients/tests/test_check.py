@@ -142,6 +142,20 @@ class Checking(unittest.TestCase):
                 "C.hol: 4 commands, 0 theorems, 3 errors"])
             self.assertEqual((status, errors), (1, ""))
 
+    def test_as_github_shows_it(self):
+        (self.folder / "a%,b").mkdir()
+        files = {"a%,b/A.hol": "g A `p = q`;;\n  e REFL_TAC;;\nqed;;\n", "B.hol": proofs(1)}
+        status, output, _ = self.check(files, "--format", "github")
+        lines = output.splitlines()
+        self.assertEqual(status, 1)
+        self.assertRegex(lines[0], r"\A::error file=a%25%2Cb/A\.hol,line=2,col=5,endLine=2,endColumn=13::REFL_TAC ")
+        self.assertTrue(lines[1].startswith("::notice file=a%25%2Cb/A.hol,line=3,col=1,"), lines[1])
+        self.assertEqual(lines[2:], [
+            "a%,b/A.hol: 3 commands, 0 theorems, 1 error", "B.hol: 4 commands, 1 theorem, all accepted",
+            "in all: 2 files, 7 commands, 1 theorem, 1 error"])
+        told = self.check(files, "--format", "github", "--quiet")[1].splitlines()
+        self.assertEqual(told, lines[:3])
+
     def test_json_and_axioms(self):
         status, output, _ = self.check({"A.hol": proofs(1)}, "--json", "--axioms")
         self.assertEqual([json.loads(line) for line in output.splitlines()], [

@@ -77,16 +77,17 @@ class Folders(unittest.TestCase):
         self.assertEqual(status, 1)
         self.assertIn("name more than %d folders" % projects.MOST_FOLDERS, said.replace("names more", "name more"))
 
-    def test_a_theory_of_the_library_is_told_how_it_is_reached(self):
+    def test_a_theory_of_the_library_is_found_from_everywhere(self):
         (self.folder / "A.hol").write_text("import sets;;\nimport nothing_of_this_name;;\n")
         _, said, _ = self.holls("check", "A.hol")
-        told, other = [line for line in said.splitlines() if "there is no file" in line]
-        self.assertNotIn("library", other)
-        text, _, place = told.partition("; the library has it: write ")[2].rpartition(" into ")
-        self.assertEqual(place, str(self.folder.resolve() / projects.PROJECT_FILE))
-        (self.folder / projects.PROJECT_FILE).write_text(text)
+        self.assertEqual([line for line in said.splitlines() if "there is no file" in line], [
+            "A.hol:2:1: error: there is no file nothing_of_this_name.hol in %s" % self.folder.resolve()])
+        (self.folder / "sets.hol").write_text(proofs(1))  # One's own comes first.
         _, said, _ = self.holls("check", "A.hol")
-        self.assertNotIn("there is no file sets.hol", said)
+        self.assertIn("\nsets.hol: 4 commands", "\n" + said)
+        (self.folder / "sets.hol").unlink()
+        status, said, _ = self.holls("check", "--within", ".", "A.hol")
+        self.assertIn("A.hol:1:1: error: the theory sets is the library's, which lies outside of .: add --within %s" % projects.LIBRARY, said)
 
     def test_within(self):
         other = self.room / "other"

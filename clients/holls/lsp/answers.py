@@ -307,7 +307,7 @@ class Answers:
     def _completion(self, _: Any, params: Params) -> Answered:
         document = self.document(params)
         files = self._files(document)
-        theories = list(dict.fromkeys([file.theory.name for file in files] + document.project.names()))
+        theories = list(dict.fromkeys([file.theory.name for file in files] + document.project.importable()))
         place = document.place(params["position"])
         known = goals.state(document.file, document.file.number_at(place))
         free = known.goals.goals[0].free if isinstance(known, goals.State) and known.goals and known.goals.goals else ()

@@ -169,7 +169,7 @@ class Workspace:
             file.context.append(file.first_line(told))
         del found[protocol.THEORIES:]
         for file in found:
-            file.neighbours = project.paths
+            file.neighbours = project.with_library
         edits = {file.theory.name: (id(file), file.theory) for file in found}
         for file in found:
             imported = [edits[name] for name in file.theory.imports if name in edits]
