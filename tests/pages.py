@@ -2,7 +2,8 @@
 """Checks the pages, and makes what they say of the definitions from these.
 
     python3 tests/pages.py            checks; the last line is 'pages: N passed, M failed'
-    python3 tests/pages.py --write    writes the lists of docs/DEFINITIONS.md, the counts of README.md, and the lines of docs/GATE.md, and then checks
+    python3 tests/pages.py --write    writes the lists of definitions to out/DEFINITIONS.md, the counts of README.md, and the lines of docs/GATE.md, and then
+                                      checks
 
 The definitions that have to be believed are those that the contracts of some functions name, and what these name, and so on (tests/antt.py). They
 stand in three tiers, each without what stands in those before. tests/definitions.txt has sentences for files and definitions; where it has none,
@@ -26,11 +27,14 @@ import lines as counting  # noqa: E402 (bench/lines.py)
 CRATES = ROOT / "crates"
 SENTENCES = ROOT / "tests" / "definitions.txt"
 PAGE = ROOT / "docs" / "DEFINITIONS.md"
+LISTS = ROOT / "out" / "DEFINITIONS.md"
 GATE = ROOT / "docs" / "GATE.md"
 README = ROOT / "README.md"
 WIDTH = 120
 LONGEST_LINE = 160
-LARGEST_README = 10_240
+LARGEST_README = 6_144
+# Where README says how many definitions have to be read, for the first tier and for all.
+COUNTS = re.compile(r"(read )[\d,]+( definitions \()[\d,]+( lines\) .*?;\s+for\s+all\s+.*?)[\d,]+( \()[\d,]+( lines\))", re.S)
 # Where README says how many places make a theorem, in all and in hol_kernel.
 MAKERS = re.compile(r"(theorems are made in )\d+( places,\s+)\d+(\s+of\s+them\s+in\s+hol_kernel)")
 BEGIN, END = "<!-- Made by tests/pages.py --write, from here -->", "<!-- to here. -->"
@@ -256,13 +260,9 @@ class Definitions:
         text = f"{count(definitions, 'definition')}, {count(lines, 'line')}, in {count(files, 'file')} of {count(crates, 'crate')}, that the contracts above don't reach:"
         return ["", "## What else is in specs/", "", *filled(text)]
 
-    def rows(self):
-        """The README's rows, by what they begin with."""
-        found = {}
-        for tier, definitions in zip(TIERS, self.tiers):
-            found[f"| {tier.title} |"] = " | ".join(f"{n:,}" for n in self.counts(definitions)) + " |"
-        found["| together |"] = " | ".join(f"{n:,}" for n in self.counts(self.all)) + " |"
-        return found
+    def numbers(self):
+        """Of the first tier and of all, how many definitions and lines there are."""
+        return [f"{n:,}" for found in (self.tiers[0], self.all) for n in self.counts(found)[:2]]
 
 
 def with_lists(text, lines):
@@ -274,6 +274,11 @@ def with_lists(text, lines):
     return f"{before}{BEGIN}\n\n" + "\n".join(squeezed(lines)) + f"\n\n{END}{after}"
 
 
+def with_title(lines):
+    """The page of the lists."""
+    return "# The definitions, by tiers\n\nMade by tests/pages.py; [what they are](../docs/DEFINITIONS.md).\n\n" + "\n".join(lines) + "\n"
+
+
 def squeezed(lines):
     """Without blank lines at the ends, or two together."""
     found = []
@@ -283,14 +288,12 @@ def squeezed(lines):
     return found[: -1 if found and not found[-1] else None]
 
 
-def with_rows(text, rows):
-    lines = text.split("\n")
-    for start, rest in rows.items():
-        at = [i for i, line in enumerate(lines) if line.startswith(start)]
-        if len(at) != 1:
-            raise antt.Unread(f"README.md has {len(at)} rows that begin with {start!r}")
-        lines[at[0]] = f"{start} {rest}"
-    return "\n".join(lines)
+def with_counts(text, numbers):
+    """The README with the numbers of definitions and of their lines."""
+    text, found = COUNTS.subn(lambda match: "".join(part for pair in zip(match.groups(), [*numbers, ""]) for part in pair), text)
+    if found != 1:
+        raise antt.Unread("README.md doesn't say, or says twice, how many definitions have to be read")
+    return text
 
 
 def codes():
@@ -423,11 +426,15 @@ def definitions_checks(write):
     """The checks of the lists and the counts, after these are written, if they are to be."""
     made = Definitions()
     pages = {
-        PAGE: with_lists(PAGE.read_text(encoding="utf-8"), made.page()),
-        README: with_makers(with_rows(README.read_text(encoding="utf-8"), made.rows())),
+        README: with_makers(with_counts(README.read_text(encoding="utf-8"), made.numbers())),
         GATE: with_lists(GATE.read_text(encoding="utf-8"), counting.table()),
     }
     yield check("sentences", made.faults())
+    lists = with_title(squeezed(made.page()))
+    yield check(str(LISTS.relative_to(ROOT)), broken_links(LISTS, lists))
+    if write:
+        LISTS.parent.mkdir(exist_ok=True)
+        LISTS.write_text(lists, encoding="utf-8")
     for page, text in pages.items():
         if write:
             page.write_text(text, encoding="utf-8")

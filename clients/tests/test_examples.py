@@ -1,5 +1,6 @@
-"""What the built program says of examples/theories and in the README's session, against what stands there."""
+"""What the built program says of examples/theories and in the session of docs/PROTOCOL.md, against what stands there."""
 
+import re
 import subprocess
 import sys
 import unittest
@@ -13,9 +14,9 @@ import replies  # noqa: E402
 replies.SECONDS = SECONDS
 
 
-def in_fences(text):
-    """The lines of a page that stand between fences."""
-    return [line for at, block in enumerate(text.split("```\n")) if at % 2 for line in block.splitlines()]
+def session_of(text):
+    """The lines of a page's fenced blocks that begin with a request."""
+    return [line for block in re.findall(r"^```\n(> .*?)^```$", text, re.M | re.S) for line in block.splitlines()]
 
 
 @unittest.skipUnless(BUILT.is_file(), "hol_serve isn't built")
@@ -50,8 +51,8 @@ class Replies(unittest.TestCase):
     def test_there_are_no_others(self):
         self.assertEqual(set(replies.THEORIES), {"connectives", "maps", "pair_type", "group_axioms", "tactics", "laws", "converses"})
 
-    def test_the_readmes_session_is_what_the_program_says(self):
-        session = in_fences((ROOT / "README.md").read_text(encoding="utf-8"))
+    def test_the_session_of_the_page_is_what_the_program_says(self):
+        session = session_of((ROOT / "docs" / "PROTOCOL.md").read_text(encoding="utf-8"))
         requests = (ROOT / "examples" / "session.jsonl").read_text(encoding="utf-8").splitlines()
         self.assertEqual([line[2:] for line in session if line.startswith("> ")], requests)
         text = "".join(line + "\n" for line in requests).encode()
