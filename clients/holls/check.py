@@ -252,7 +252,7 @@ class _Show:
             return
         outcome = _count(wrong, "error") if wrong else "not checked to the end" if has_failed else "all accepted"
         axioms = _made_by(unit, "new_axiom")
-        parts = [_count(len(file.commands), "command"), _count(_made_by(unit, "qed"), "theorem")] + ([_count(axioms, "axiom")] if axioms else [])
+        parts = [_count(len(file.cut.commands), "command"), _count(_made_by(unit, "qed"), "theorem")] + ([_count(axioms, "axiom")] if axioms else [])
         say("%s: %s, %s" % (file.path, ", ".join(parts), outcome))
 
     def _is_carried(self, file: File) -> bool:
@@ -262,7 +262,7 @@ class _Show:
     def total(self, units: Sequence[Unit], wrong: int) -> None:
         """The last line of all, where there are several files."""
         if len(units) > 1 and not self.is_quiet:
-            parts = [_count(len(units), "file"), _count(sum(len(unit.file.commands) for unit in units), "command"),
+            parts = [_count(len(units), "file"), _count(sum(len(unit.file.cut.commands) for unit in units), "command"),
                      _count(sum(_made_by(unit, "qed") for unit in units), "theorem"), _count(wrong, "error")]
             say("in all: " + ", ".join(parts))
 
@@ -293,7 +293,7 @@ class _JsonShow(_Show):
     def count(self, unit: Unit, wrong: int) -> None:
         """The last line of a file."""
         more = {"failed": True} if unit.failure is not None else {}
-        counts = {"commands": len(unit.file.commands), "theorems": _made_by(unit, "qed"), "axioms": _made_by(unit, "new_axiom"), "errors": wrong}
+        counts = {"commands": len(unit.file.cut.commands), "theorems": _made_by(unit, "qed"), "axioms": _made_by(unit, "new_axiom"), "errors": wrong}
         print(json.dumps(dict({"file": unit.file.path}, **counts, **more)))
 
     def total(self, units: Sequence[Unit], wrong: int) -> None:
@@ -337,7 +337,7 @@ def _count(number: int, what: str) -> str:
 
 def _made_by(unit: Unit, word: str) -> int:
     """How many commands of a kind made what they are for."""
-    numbers = [number for number, command in enumerate(unit.file.commands) if command.word == word]
+    numbers = [number for number, command in enumerate(unit.file.commands) if command.word == word and command.is_public]
     if unit.recalled is not None:  # All was accepted.
         return len(numbers)
     return sum(bool(entry and isinstance(entry.report, Made)) for entry in map(unit.file.entry, numbers))

@@ -52,7 +52,6 @@ class File:
         self.lines = Lines(text)
         self.hints = None
         self.cut: Cut = cut(text)
-        self.starts = [command.start for command in self.cut.commands]
         self.import_commands: Dict[str, List[Command]] = {}
         for command in self.cut.commands:
             if command.word == "import" and command.name:
@@ -64,7 +63,7 @@ class File:
         """Takes what the files that it imports declare, by the names of their theories."""
         is_same = imported.keys() == self._imported.keys() and all(imported[name].is_like(self._imported[name]) for name in imported)
         self._imported = imported
-        if not is_same:
+        if self.notation.is_expanded_otherwise(self._known()) or not is_same:
             self._read()
 
     def copy(self) -> "File":
@@ -76,10 +75,14 @@ class File:
 
     def _read(self) -> None:
         """Has its commands as they are sent."""
-        known = {name: one for name, one in self._imported.items() if name in self.imports and name not in self.refused}
-        self.notation = Notation(self.cut.commands, known)
+        self.notation = Notation(self.cut.commands, self._known())
+        self.starts = [command.start for command in self.commands]
         self.hints = None
         self._want()
+
+    def _known(self) -> Dict[str, Notation]:
+        """What the files declare whose import is carried out."""
+        return {name: one for name, one in self._imported.items() if name in self.imports and name not in self.refused}
 
     def refuse(self, imports: Sequence[str]) -> None:
         """Takes which imports aren't carried out, since they are part of a circle."""
@@ -169,7 +172,8 @@ class File:
         may_be_open = False
         for command, fits in zip(self.commands, fitting):
             if fits and command.word in notation.OUTSIDE:
-                texts += [("oops", True)] if may_be_open and with_oops else []
+                is_inside = command.package is not None and not command.is_first  # A package's own proofs end before its next command.
+                texts += [("oops", True)] if may_be_open and with_oops and not is_inside else []
                 may_be_open = command.word == "g"
             may_be_open = may_be_open and command.text != "oops"
             self._slots.append(len(texts) if fits else None)

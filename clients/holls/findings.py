@@ -15,7 +15,7 @@ from holls import declaring, notation, protocol, words
 from holls.files import File
 from holls.protocol import Goals, Lost, Made, Refusal
 from holls.surface.errors import Misread
-from holls.text import REMEMBERED
+from holls.text import REMEMBERED, Command
 from holls.view import View
 
 
@@ -78,6 +78,7 @@ class _Walk:
         self.proof: Optional[_Proof] = None
         self.refused_goal: Optional[int] = None
         self.is_certain = True
+        self.refused_package: Optional[Command] = None
 
     def step(self, number: int) -> None:
         """Takes one command's report. A declaration has none."""
@@ -127,6 +128,9 @@ class _Walk:
         if not is_own and (not self.is_certain or proof and proof.is_swallowing or self.is_told(number, refusal)):
             return
         start, end, text = words.explain(command.text, refusal, str(proof) if proof else None)
+        if command.package is not None:
+            self.refused_part(number, refusal, text)
+            return
         if refusal.number == protocol.GOALS_REMAIN and proof and proof.last:
             text += _remaining(View.of(self.file, number), proof.last)
         if refusal.number == protocol.NAME_TAKEN:
@@ -142,6 +146,20 @@ class _Walk:
         first, last = command.range(start, end)
         last = max(last, first + 1)
         self.findings.append(Finding(first, last, severity, text, number=number, refusal=refusal))
+
+    def refused_part(self, number: int, refusal: Refusal, text: str) -> None:
+        """A refused command of a package: the first one is told, in its words; the others follow from it."""
+        command = self.file.commands[number]
+        is_told, cause = self.refused_package is command.package, self.cause(number, refusal)
+        self.refused_package = command.package
+        if is_told:
+            return
+        first = " ".join(command.text.split()[:2])
+        told = "this %s stands for several commands, and the program refuses one of them, `%s ..`: %s" % (command.package.word, first, text)
+        if cause is not None and command.word == "oops":
+            told = "%s (after the error on line %d)" % (text, self.line(cause))
+        start, end = command.range(0, 1)
+        self.findings.append(Finding(start, max(end, start + 1), Severity.ERROR if cause is None else Severity.NOTE, told, number=number, refusal=refusal))
 
     def namesake(self, number: int, name: str) -> str:
         """Where a command above has a name too. By its text alone: what became of it may not be known yet."""
@@ -239,8 +257,15 @@ def _form(file: File) -> List[Finding]:
     return [
         Finding(blemish.start, blemish.end, Severity.ERROR if blemish.is_error else Severity.WARNING, blemish.text)
         for blemish in file.blemishes + file.context + file.notation.blemishes] + [
+        Finding(*command.range(0, 1), Severity.WARNING, "%s isn't proved: it is an axiom by this sorry" % command.name, True, number)
+        for number, command in enumerate(file.commands) if is_sorry(command) and command.word == "new_axiom"] + [
         _misread(file, number, command.as_written.range(command.error.start, command.error.end), command.error)
         for number, command in enumerate(file.commands) if command.error is not None]
+
+
+def is_sorry(command: Command) -> bool:
+    """Whether a command is of a `sorry`."""
+    return command.package is not None and command.package.word == "sorry"
 
 
 def _misread(file: File, number: int, where: Tuple[int, int], error: Misread) -> Finding:

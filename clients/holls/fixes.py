@@ -11,6 +11,7 @@ from holls.bound import bound_type
 from holls.files import File
 from holls.findings import Finding, Severity
 from holls.names import TACTIC, THEOREM
+from holls.packages.scope import THEORY
 
 
 @dataclass(frozen=True)
@@ -25,6 +26,8 @@ class Fix:
 
 def fixes(finding: Finding, file: File, files: Sequence[File], every: Sequence[File]) -> List[Fix]:
     """What could be done; `files` are those that stand in the server, `every` all of the project."""
+    if finding.number is not None and file.commands[finding.number].package is not None:
+        return list(_base(file, every))
     if finding.is_open:
         return list(_ends(file, finding.number))
     if finding.number is None:
@@ -100,6 +103,14 @@ def _declaring(written: str, file: File, every: Sequence[File]) -> Iterator[Fix]
         if name in by_name and not graph.is_importing(by_name[name], file, by_name):
             place = _import_place(file)
             yield Fix("Import %s, which declares %s" % (name, written), place, place, "import %s;;\n" % name)
+
+
+def _base(file: File, every: Sequence[File]) -> Iterator[Fix]:
+    """The theory on which packages rest, to be imported."""
+    by_name = {other.theory.name: other for other in every}
+    if THEORY in by_name and not graph.is_importing(file, by_name[THEORY], by_name) and not graph.is_importing(by_name[THEORY], file, by_name):
+        place = _import_place(file)
+        yield Fix("Import %s" % THEORY, place, place, "import %s;;\n" % THEORY)
 
 
 def _renaming(finding: Finding, name: str, file: File) -> Iterator[Fix]:

@@ -120,6 +120,12 @@ local declaration | Declares something for this file alone.
 """)
 """The commands of a file that declare notation, which the program never gets (docs/WRITING.md)."""
 
+PACKAGES = _entries(r"""
+define_type NAME = CONSTRUCTOR type .. | .. | Declares a type with constructors, and makes its theorems of induction, recursion, cases and equality.
+sorry | Ends the open proof: what it was to prove is an axiom from here on, with a warning.
+""")
+"""The commands of a file that stand for several of the program's (docs/WRITING.md)."""
+
 PRELUDE = {
     "T_DEF": r"T = ((\p:bool. p) = (\p. p))",
     "AND_DEF": r"(/\) = (\p q. (\f:bool->bool->bool. f p q) = (\f. f T T))",
@@ -157,5 +163,6 @@ TYPES = {"bool": "the truth values, T and F", "ind": "an infinite type (INFINITY
 
 
 def entry(name: str) -> Optional[Entry]:
-    """What there is to say of a function, a tactical, a rule, a command or a declaration."""
-    return FUNCTIONS.get(name) or TACTICALS.get(name) or RULES.get(name) or COMMANDS.get(name) or DECLARATIONS.get(name)
+    """What there is to say of a function, a tactical, a rule, a command, a declaration or a package."""
+    every = (FUNCTIONS, TACTICALS, RULES, COMMANDS, DECLARATIONS, PACKAGES)
+    return next((entries[name] for entries in every if name in entries), None)

@@ -88,7 +88,7 @@ def blocks(file: File) -> List[Tuple[int, int]]:
 def written(file: File) -> List[Written]:
     """The names that a file's commands make, kept until its text changes."""
     if file.written is None or file.written[0] is not file.notation:
-        made = [one for first, last in blocks(file) for one in _made_by(file.commands[first], first, last)]
+        made = [one for first, last in blocks(file) if file.commands[first].is_public for one in _made_by(file.commands[first], first, last)]
         file.written = file.notation, made
     return file.written[1]
 

@@ -6,6 +6,9 @@ import re
 from dataclasses import dataclass
 from typing import Dict, List, Mapping, NamedTuple, Optional, Sequence, Tuple
 
+from holls.packages import expansion
+from holls.packages.parts import Course, parts
+from holls.packages.scope import Standing
 from holls.surface import declarations
 from holls.surface.declarations import NOTHING, Declaration, Scope
 from holls.surface.errors import Misread
@@ -15,6 +18,8 @@ from holls.surface.vocabulary import MANY, PRELUDE_CONSTANTS, PRELUDE_TYPES, Voc
 from holls.text import Blemish, Command
 
 _NAMING = frozenset(("new_definition", "new_constant", "new_type", "new_basic_type_definition"))
+_STANDING = frozenset((*_NAMING, "g", "qed", "oops", "new_axiom", "deftac", *expansion.WORDS))
+"""The commands that say what stands for packages."""
 _FIRST_NAME = re.compile(r"\s*([A-Za-z_][A-Za-z0-9_']*)")
 
 
@@ -91,6 +96,11 @@ class Notation:
 
     def __init__(self, written: Sequence[Command], imported: Mapping[str, "Notation"]) -> None:
         self.commands: List[Command] = []
+        self.has_packages = False
+        self._imported = imported
+        self._course = Course(lambda: [one.standing for one in self._imported.values()])
+        self._own = hash(tuple(command.text for command in written if command.word in _STANDING))
+        self.key = self._key(imported)
         self.declared: Dict[int, Declaration] = {}
         self.blemishes: List[Blemish] = []
         self.tables: List[Table] = []
@@ -102,18 +112,37 @@ class Notation:
         self.names = Names(Vocabulary(constructors, constants), {}, {})
         self._scope = NOTHING
         self._standing = NamesAt(self.names, 0)
-        for number, command in enumerate(written):
-            self._add(number, command, imported)
+        for command in written:
+            self._add(len(self.commands), command, imported)
         self.exported = self._scope.exported
         self.vocabulary = Vocabulary({**constructors, **{name: number for name, (_, number) in self.names.constructors.items()}},
                                      {**constants, **self.names.constants})
-        self._check_constants(written)
+        self._check_constants()
+
+    def _key(self, imported: Mapping[str, "Notation"]) -> int:
+        """What decides what stands behind the file's commands."""
+        return hash((self._own, *(one.key for one in imported.values())))
+
+    def is_expanded_otherwise(self, imported: Mapping[str, "Notation"]) -> bool:
+        """Takes the files that are imported anew; whether packages here may stand for something else by them."""
+        was, self._imported, self.key = self.key, imported, self._key(imported)
+        if was != self.key:
+            self._course = Course(lambda: [one.standing for one in self._imported.values()])
+        return was != self.key and self.has_packages
+
+    @property
+    def standing(self) -> Standing:
+        """What stands for packages behind the file's commands."""
+        return self._course.behind(self.commands)
 
     def _add(self, number: int, command: Command, imported: Mapping[str, "Notation"]) -> None:
         made: Command = command
         word = command.word
         if word in declarations.WORDS:
             self._declare(number, command)
+        elif word in expansion.WORDS:
+            self._expand(command)
+            return
         elif word == "import":
             self._import(command, imported.get(command.name))
         else:
@@ -125,6 +154,23 @@ class Notation:
                 self._take_names(number, made)
         self.commands.append(made)
         self.tables.append(self._scope.table)
+
+    def _expand(self, command: Command) -> None:
+        """Takes the commands that a package stands for."""
+        self.has_packages = True
+        standing, word, table = self._course.behind(self.commands), command.word, self._scope.table
+        if word == "sorry":
+            found = expansion.sorry(standing)
+        else:
+            self._standing.number = len(self.commands)
+            found = expansion.expanded(command.text, word, table, self._standing, standing)
+        for part in parts(command, found):
+            if part.word in _NAMING:
+                self._take_names(len(self.commands), part)
+            self.commands.append(part)
+            self.tables.append(table)
+        self._course.behind(self.commands)
+        self._course.add(found)
 
     def _declare(self, number: int, command: Command) -> None:
         """Takes a declaration; one that can't stand is told, and does nothing."""
@@ -162,7 +208,7 @@ class Notation:
             for name in words[1:3]:
                 self.names.constants.setdefault(name, number)
 
-    def _check_constants(self, written: Sequence[Command]) -> None:
+    def _check_constants(self) -> None:
         """Warns of declarations for constants that nothing makes."""
         for number, declaration in self.declared.items():
             kind = self.vocabulary.constructors if declaration.kind == "type_infixr" else self.vocabulary.constants
@@ -170,7 +216,7 @@ class Notation:
             for name, start, end in declaration.constants:
                 if name not in kind and name not in known:
                     told = "nothing makes the constant %s in this file or in those that it imports" % name
-                    self.blemishes.append(Blemish(*written[number].range(start, end), told, False))
+                    self.blemishes.append(Blemish(*self.commands[number].range(start, end), told, False))
 
     def is_like(self, other: "Notation") -> bool:
         """Whether importing files have the same of both."""

@@ -81,10 +81,25 @@ def expanded(file: File) -> Tuple[str, List[str]]:
         elif command.error is not None:
             start, _ = command.as_written.range(command.error.start, command.error.end)
             troubles.append(_trouble(file, start, command.error.text))
+        elif command.package is not None:
+            changes += _expanded(file, number)
         elif command is not command.as_written:
             plain = command.text.split("`")[1::2]
             changes += _quotations(file, command.as_written, lambda at, _, plain=plain: plain[at])
     return _changed(file.lines.text, changes), troubles
+
+
+def _expanded(file: File, number: int) -> Iterator[Change]:
+    """The commands of a package, as an ordinary file has them, behind the package as a comment."""
+    command = file.commands[number]
+    if not command.is_first:
+        return
+    whole = [one.text for one in file.commands[number:] if one.package is command.package]
+    text, package = file.lines.text, command.package
+    end = package.end + len(text[package.end:]) - len(text[package.end:].lstrip())
+    end = end + 2 if text.startswith(";;", end) else package.end
+    comment = "(* %s;; *)" % text[package.start:package.end]
+    yield Change(package.start, end, "\n  ".join([comment] + [one + ";;" for one in whole]))
 
 
 def _commented(file: File, command: Command) -> Iterator[Change]:

@@ -79,6 +79,16 @@ class Command:
         return None
 
     @property
+    def package(self) -> Optional["Command"]:
+        """The package that the command belongs to, if it does to one."""
+        return None
+
+    @property
+    def is_public(self) -> bool:
+        """Whether what the command makes is the user's: not so of what only serves the other commands of a package."""
+        return True
+
+    @property
     def word(self) -> str:
         """The command's first word, or the empty string."""
         return _words(self.text)[0]

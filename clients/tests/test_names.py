@@ -49,7 +49,7 @@ class InAProject(unittest.TestCase):
         return [one["label"] for one in found], {one["label"]: one["detail"] for one in found}
 
     def test_completion_knows_what_may_stand_where(self):
-        self.assertEqual(set(self.labels("qed;;\n")[0]), {*notation.COMMANDS, *manual.DECLARATIONS})
+        self.assertEqual(set(self.labels("qed;;\n")[0]), {*notation.COMMANDS, *manual.PACKAGES, *manual.DECLARATIONS})
         self.assertEqual(self.labels("import ")[0], ["A", "B", "OTHER"])
         theorems, details = self.labels("ACCEPT_TAC ")
         self.assertLess({"ONCE", "D_DEF", "ABS_REP", "TRUTH", "SPEC", "THEN", "CONJ_TAC"}, set(theorems))

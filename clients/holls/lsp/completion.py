@@ -32,7 +32,7 @@ def at(files: Sequence[File], theories: Iterable[str], file: File, place: int, f
     start, _ = notation.word_at(file.lines.text, place)
     if command is None or start <= command.start:
         own = [_own(name, entry, KEYWORD, "0") for name, entry in manual.COMMANDS.items()]
-        return own + [_own(name, entry, KEYWORD, "1") for name, entry in manual.DECLARATIONS.items()]
+        return own + [_own(name, entry, KEYWORD, "1") for name, entry in (*manual.PACKAGES.items(), *manual.DECLARATIONS.items())]
     if command.word == "import":
         return [_item(name, MODULE, "a theory", "0") for name in theories if name != file.theory.name]
     visible = _once(names.visible(files, file, command.start))

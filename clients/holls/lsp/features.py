@@ -9,8 +9,11 @@ from holls.files import File
 from holls.findings import Finding, findings
 from holls.names import CONSTANT, TACTIC, THEOREM, TYPE
 from holls.protocol import Made
+from holls.text import Command
 
 FUNCTION = 12
+DETAIL = 200
+"""So many characters of a package are shown beside its name."""
 KINDS = {THEOREM: FUNCTION, CONSTANT: 14, TYPE: 5, TACTIC: 6}
 """The protocol's numbers of the kinds of names."""
 
@@ -38,12 +41,23 @@ def symbols(file: File) -> List[Dict[str, Any]]:
     made = []
     for first, last in names.blocks(file):
         command = file.commands[first]
+        if command.package is not None:
+            made += [_package(file, command.package)] if command.is_first else []
+            continue
         made.append({
             "name": command.name or command.word, "kind": kinds.get(command.word, FUNCTION),
             "detail": names.expression(command) or names.quoted(command),
             "range": span(file, command.start, file.commands[last].end),
             "selectionRange": span(file, *names.place_of_name(command, command.name))})
     return made
+
+
+def _package(file: File, command: Command) -> Dict[str, Any]:
+    """A package, which is one thing whatever it stands for."""
+    return {
+        "name": command.name or command.word, "kind": KINDS[TYPE] if command.word == "define_type" else FUNCTION,
+        "detail": " ".join(command.text.split())[:DETAIL], "range": span(file, command.start, command.end),
+        "selectionRange": span(file, *names.place_of_name(command, command.name))}
 
 
 def foldings(file: File) -> List[Dict[str, Any]]:
@@ -64,7 +78,7 @@ def theorem(file: File, number: int) -> Optional[str]:
 
 def lenses(file: File, uri: str) -> List[Dict[str, Any]]:
     """A lens above each proof that made its theorem."""
-    made = [(first, theorem(file, last)) for first, last in names.blocks(file)]
+    made = [(first, theorem(file, last)) for first, last in names.blocks(file) if file.commands[first].package is None]
     shown = {one.name: one.shown for one in names.known(file) if one.kind == THEOREM and one.is_made}
     return [
         {"range": span(file, file.commands[first].start, file.commands[first].start), "data": {"uri": uri, "name": name, "statement": shown.get(name)}}

@@ -17,6 +17,9 @@ TOGETHER = 300_000
 SHOWN = 20_000
 """So many characters of a term are shown. A report has no limit, and editors have."""
 
+HIDDEN = "pk_"
+"""So begin the names of what packages make for themselves."""
+
 
 @dataclass(frozen=True)
 class State:
@@ -40,6 +43,8 @@ def state(file: File, number: Optional[int]) -> Union[State, Job]:
 
     A hidden `oops` leaves no proof open, so that nothing above it matters.
     """
+    if number is not None and file.commands[number].package is not None:
+        return _of_package(file, number)
     errors: List[str] = []
     for at in range(-1 if number is None else number, -1, -1):
         entry = file.entry(at)
@@ -55,6 +60,26 @@ def state(file: File, number: Optional[int]) -> Union[State, Job]:
         if file.is_behind_oops(at):
             break
     return State(number, None, None, errors)
+
+
+def _of_package(file: File, number: int) -> Union[State, Job]:
+    """The state behind a package: what all its commands have made for the user, and the first of them that was refused."""
+    package = file.commands[number].package
+    first = number
+    while first and file.commands[first - 1].package is package:
+        first -= 1
+    made: List[str] = []
+    errors: List[str] = []
+    for at in range(first, number + 1):
+        entry = file.entry(at)
+        report = entry.report if entry else None
+        if entry and report is None:
+            return file.theory, file.slot(at)
+        if isinstance(report, Made) and file.commands[at].is_public:
+            made += [text for text in report.entries if not text.split()[1].startswith(HIDDEN)]
+        elif not errors and (entry is None or isinstance(report, (Refusal, Lost))):
+            errors = _error(file, at, report)
+    return in_notation(State(number, None, Made(tuple(made)), errors), View.of(file, number))
 
 
 def _goals_in_notation(goals: Goals, view: View) -> Goals:

@@ -33,7 +33,8 @@ def actions(file: File, uri: str, files: Sequence[File], every: Sequence[File], 
 
 def manual_of_all() -> Dict[str, Any]:
     """All words of the notation, with how each is written and what it does; and the symbols' names."""
-    kinds = {"commands": manual.COMMANDS, "declarations": manual.DECLARATIONS, "functions": manual.FUNCTIONS, "tacticals": manual.TACTICALS, "rules": manual.RULES}
+    kinds = {"commands": {**manual.COMMANDS, **manual.PACKAGES}, "declarations": manual.DECLARATIONS,
+             "functions": manual.FUNCTIONS, "tacticals": manual.TACTICALS, "rules": manual.RULES}
     told = {kind: {name: {"form": entry.form, "does": entry.does} for name, entry in entries.items()} for kind, entries in kinds.items()}
     return dict(told, symbols=SYMBOL_NAMES)
 

@@ -60,7 +60,7 @@ def word(files: Sequence[File], file: File, place: int) -> Optional[Word]:
     if command.word == "import" and start > command.start:
         return Word(name, start, end, command, False, theory=name)
     entry = manual.entry(name)
-    is_first = name in manual.COMMANDS or name in manual.DECLARATIONS
+    is_first = name in manual.COMMANDS or name in manual.DECLARATIONS or name in manual.PACKAGES
     if entry and (not is_first or start == command.start or name in manual.DECLARATIONS and file.is_declaration(number)):
         return Word(name, start, end, command, False, entry, view=view)
     kinds = IN_TERMS if file.is_declaration(number) else (names.kind_outside(written, written.offset(start)),)

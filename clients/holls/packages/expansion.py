@@ -1,0 +1,91 @@
+"""Expands packages: a pure function of a package's text and of what stands before it, kept as long as that says the same."""
+
+from __future__ import annotations
+
+from dataclasses import dataclass
+from typing import Any, Callable, Dict, List, Mapping, Optional, Tuple
+
+from holls.packages import datatypes
+from holls.packages.output import HIDDEN, PUBLIC, Output, Plain
+from holls.packages.parsing import Place
+from holls.packages.scope import THEORY, Asking, Standing, agrees
+from holls.packages.type_commands import TypeCommands
+from holls.surface.errors import Misread
+from holls.surface.table import Table
+from holls.surface.vocabulary import Asked, Vocabulary
+from holls.surface.vocabulary import agrees as vocabulary_agrees
+
+_MOST_KEPT = 500
+_MOST_WAYS = 4
+"""So many expansions of one text are kept, by what stands before it."""
+
+
+@dataclass(frozen=True)
+class Expansion:
+    """What a package stands for: plain commands, and what they make; or what is wrong with it."""
+
+    plain: Tuple[Plain, ...]
+    made: Standing
+    error: Optional[Misread] = None
+
+
+@dataclass(frozen=True)
+class _Kept:
+    """An expansion with all that was asked for it, and the answers."""
+
+    expansion: Expansion
+    answers: Mapping[Tuple[str, str], Any]
+    vocabulary: Mapping[Tuple[str, str], Optional[bool]]
+
+
+def _define_type(text: str, place: Place, out: Output) -> None:
+    written = datatypes.read(text, "define_type", place)
+    data = datatypes.analysed(written, out.asking)
+    TypeCommands(data, out, {one.name: (one.start, one.end) for one in written.constructors}).emit()
+    out.asking.own.data[data.name] = data
+
+
+PACKAGES: Dict[str, Callable[[str, Place, Output], None]] = {"define_type": _define_type}
+"""The packages by their words, each with what expands it."""
+WORDS: Dict[str, str] = {"define_type": datatypes.FORM, "sorry": "sorry"}
+"""The words that begin a package, and how each is written."""
+
+
+def expanded(text: str, word: str, table: Table, vocabulary: Vocabulary, standing: Standing) -> Expansion:
+    """What a package stands for at a place. It is kept, and found again while all that was asked has the same answers."""
+    kept: Dict[str, List[_Kept]] = table.memory.setdefault("packages", {})
+    ways = kept.setdefault(text, [])
+    for one in ways:
+        if vocabulary_agrees(vocabulary, one.vocabulary) and agrees(standing, one.answers):
+            return one.expansion
+    if len(kept) > _MOST_KEPT:
+        kept.clear()
+        ways = kept.setdefault(text, [])
+    asked, asking = Asked(vocabulary), Asking(standing)
+    found = _expanded(text, word, Place(table, asked), asking)
+    ways.insert(0, _Kept(found, asking.answers, asked.answers))
+    del ways[_MOST_WAYS:]
+    return found
+
+
+def _expanded(text: str, word: str, place: Place, asking: Asking) -> Expansion:
+    out = Output(asking)
+    try:
+        if not asking.has_base:
+            raise Misread(0, len(word), "%s rests on the theory %s: write import %s;; above it" % (word, THEORY, THEORY))
+        PACKAGES[word](text, place, out)
+        out.check(word, len(word))
+    except Misread as error:
+        return Expansion((), Standing(), error)
+    except RecursionError:
+        return Expansion((), Standing(), Misread(0, len(word), "this %s is nested too deeply: split it" % word))
+    return Expansion(tuple(out.plain), asking.own)
+
+
+def sorry(standing: Standing) -> Expansion:
+    """What `sorry` stands for: the open proof is given up, and its goal is an axiom."""
+    if standing.open is None:
+        return Expansion((), Standing(), Misread(0, 5, "no proof is open here that `sorry` could end"))
+    name, statement = standing.open
+    plain = Plain("oops", HIDDEN, None), Plain("new_axiom %s `%s`" % (name, statement), PUBLIC, None)
+    return Expansion(plain, Standing(theorems={name: statement}))

@@ -1,0 +1,89 @@
+"""The commands of a package as a file has them: each is one of the file's commands, at the package's place."""
+
+from __future__ import annotations
+
+from dataclasses import dataclass
+from typing import Callable, Iterable, List, Optional, Sequence, Tuple
+
+from holls.packages.expansion import Expansion
+from holls.packages.output import PUBLIC, Plain
+from holls.packages.scope import Standing
+from holls.surface.errors import Misread
+from holls.text import Command
+
+
+@dataclass(frozen=True)
+class Part(Command):
+    """A plain command of a package. Its places are those of the package's text that it comes from; `is_first` of the package's commands."""
+
+    whole: Command
+    plain: Plain
+    is_first: bool
+    wrong: Optional[Misread] = None
+
+    @property
+    def package(self) -> Command:
+        """The package that the command belongs to."""
+        return self.whole
+
+    @property
+    def as_written(self) -> Command:
+        """The package."""
+        return self.whole
+
+    @property
+    def error(self) -> Optional[Misread]:
+        """What is wrong with the package, told at its one command."""
+        return self.wrong
+
+    @property
+    def is_public(self) -> bool:
+        """Whether what the command makes is the user's."""
+        return self.plain.role == PUBLIC
+
+    def place(self, offset: int) -> int:
+        """The place in the file that the command comes from; its end where the place is the text's."""
+        start, end = self._where()
+        return end if offset >= len(self.text) or offset >= len(self.word) else start
+
+    def offset(self, place: int) -> int:
+        """No place of the file is one in the command."""
+        return 0
+
+    def range(self, start: int, end: int) -> Tuple[int, int]:
+        """The range in the file that the command comes from."""
+        return self._where()
+
+    def _where(self) -> Tuple[int, int]:
+        return self.whole.range(*(self.plain.span or (0, len(self.whole.word))))
+
+
+def parts(command: Command, expansion: Expansion) -> List[Command]:
+    """A package's commands; where it can't be expanded one that is sent as an empty text."""
+    if expansion.error is not None:
+        return [Part("", command.start, command.end, command.marks, command, Plain("", PUBLIC, None), True, expansion.error)]
+    return [Part(one.text, command.start, command.end, command.marks, command, one, not number) for number, one in enumerate(expansion.plain)]
+
+
+class Course:
+    """What stands as a file's commands go by: found when it is asked for."""
+
+    def __init__(self, imported: Callable[[], Iterable[Standing]]) -> None:
+        self._imported = imported
+        self._standing: Optional[Standing] = None
+        self._done = 0
+
+    def behind(self, commands: Sequence[Command]) -> Standing:
+        """What stands behind commands, which are those of the last time and others behind them."""
+        if self._standing is None:
+            self._standing = Standing.over(self._imported())
+        for command in commands[self._done:]:
+            if not isinstance(command, Part):
+                self._standing.take(command.text)
+        self._done = len(commands)
+        return self._standing
+
+    def add(self, expansion: Expansion) -> None:
+        """Takes what a package makes that stands behind the commands of the last time."""
+        if self._standing is not None:
+            self._standing.add(expansion.made)

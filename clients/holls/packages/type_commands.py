@@ -1,0 +1,330 @@
+"""The commands that make an inductive type, by the general theorem of theories/package_types.hol."""
+
+from __future__ import annotations
+
+from typing import Dict, List, Optional, Tuple
+
+from holls.packages.layout import Layout, added, cases
+from holls.packages.output import HIDDEN, PUBLIC, Output, Span, Steps, chunks, conjuncts, goals
+from holls.packages.scope import Data
+from holls.packages.terms import fresh, fun, tyshow
+
+_MOST_PLAIN = 8
+"""With more constructors some texts are constants, so that they don't stand once for each."""
+_ALL_LISTS = "LENGTH; LENGTH_APPEND; ADD_CLAUSES"
+
+
+class TypeCommands:
+    """Makes a type's commands into an output. `spans` are the places of its constructors."""
+
+    def __init__(self, data: Data, out: Output, spans: Dict[str, Span]) -> None:
+        self.data, self.out, self.spans = data, out, spans
+        self.name = data.name
+        self.layout = layout = Layout(data, out.asking)
+        self.result = data.result
+        self.tree = "((%s,num)prod)pk_any" % layout.labels
+        self.arities = "pk_%s_AR:%s->num" % (self.name, layout.labels)
+        self.make = "mk_%s:%s->%s" % (self.name, self.tree, layout.type)
+        self.take = "dest_%s:%s->%s" % (self.name, layout.tight, self.tree)
+        self.counting = "pk_%s_AR_DEF; sum_CASE; K_THM; FST; SND; %s; NUM_EQ_CLAUSES; FORALL_SIMP" % (self.name, _ALL_LISTS)
+        self.definitions = "; ".join("pk_%s_DEF" % con.name for con in data.constructors)
+
+    def emit(self) -> None:
+        """Makes all commands."""
+        self._type()
+        self._constructors()
+        self._induction()
+        self._recursion()
+        self._equations()
+        self._cases()
+
+    def _span(self, at: int) -> Optional[Span]:
+        return self.spans.get(self.data.constructors[at].name)
+
+    def _at(self, theorem: str, more: str = "") -> str:
+        """A general theorem at this type."""
+        layout = self.layout
+        typed = "INST_TYPE [`:%s`,`:T'`; `:%s`,`:A`%s] %s" % (layout.type, layout.labels, more, theorem)
+        return "(MP (SPEC `%s` (SPEC `%s` (SPEC `%s` (%s)))) pk_%s_TYPED)" % (self.take, self.make, self.arities, typed, self.name)
+
+    # ---- The type and its constructors
+
+    def _type(self) -> None:
+        name, layout, out, data = self.name, self.layout, self.out, self.data
+        arities = cases([layout.arity(at) for at in range(layout.count)])
+        out.put("new_definition pk_%s_AR_DEF `pk_%s_AR (a:%s) = %s a`" % (name, name, layout.labels, arities))
+        out.made("pk_%s_AR_DEF" % name, None)
+        first = next(at for at in range(layout.count) if "r" not in data.constructors[at].kinds)
+        proof = "REWRITE_TAC [pk_WELL_ROSE; ALL; %s]" % self.counting
+        if layout.has_lists:
+            proof += " THEN BETA_TAC THEN REWRITE_TAC [%s]" % self.counting
+        out.prove("pk_%s_EXISTS" % name, "pk_WELL (%s) (pk_ROSE %s NIL)" % (self.arities, layout.witness(first)), proof)
+        out.put("new_basic_type_definition %s mk_%s dest_%s pk_%s_ABS pk_%s_REP pk_%s_EXISTS" % ((name,) * 6), PUBLIC)
+        out.asking.own.arities[name] = len(data.parameters)
+        for theorem in ("pk_%s_ABS", "pk_%s_REP"):
+            out.made(theorem % name, None)
+
+    def _constructors(self) -> None:
+        name, layout, out = self.name, self.layout, self.out
+        for at, con in enumerate(self.data.constructors):
+            arguments = "".join(" (%s:%s)" % (one.name, tyshow(one.type)) for one in layout.arguments[at])
+            body = "(mk_%s (pk_ROSE %s (MAP dest_%s %s)):%s)" % (name, layout.label(at), name, layout.children(at), layout.type)
+            out.put("new_definition pk_%s_DEF `%s%s = %s`" % (con.name, con.name, arguments, body), PUBLIC, self._span(at))
+            out.made("pk_%s_DEF" % con.name, None)
+        for at, con in enumerate(self.data.constructors):
+            out.constant(con.name, fun(*con.types, self.data.type))
+        out.prove("pk_%s_TYPED" % name, "pk_TYPED (%s) (%s) (%s)" % (self.arities, self.make, self.take),
+                  "REWRITE_TAC [pk_TYPED_DEF; pk_%s_ABS; pk_%s_REP; FORALL_SIMP]" % (name, name))
+
+    # ---- Induction
+
+    def _induction(self) -> None:
+        layout, name = self.layout, self.name
+        hypotheses = layout.every(self._inductive)
+        typed = "SYM (SPEC `P:%s->bool` (INST_TYPE [`:%s`,`:A`; `:bool`,`:B`] ETA_AX))" % (layout.tight, layout.type)
+        opened = "REPEAT (GEN_TAC ORELSE DISCH_THEN SUBST1_TAC)" if layout.has_lists else "REPEAT GEN_TAC"
+        symmetric = "; ".join(self._symmetric(at) for at in range(layout.count))
+        self.out.prove(self.data.induct, "!P. %s ==> (!) P" % hypotheses, " THEN ".join((
+            "GEN_TAC THEN STRIP_TAC THEN SUBST1_TAC (%s) THEN MATCH_MP_TAC %s" % (typed, self._at("pk_TYPE_INDUCT")), self._unfolded(),
+            "REPEAT CONJ_TAC", opened, "REWRITE_TAC [ALL_APPEND; MAP; ALL; %s]" % symmetric,
+            "REPEAT DISCH_TAC THEN ASM_REWRITE_TAC [] THEN FIRST_ASSUM MATCH_MP_TAC THEN ASM_REWRITE_TAC []")), PUBLIC)
+        self.out.prove(name + "_INDUCTION", "!P. %s ==> !x. P x" % hypotheses, "MP_TAC %s THEN REWRITE_TAC [ETA_AX]" % self.data.induct, PUBLIC)
+
+    def _inductive(self, at: int) -> str:
+        """What induction asks of a constructor."""
+        hypotheses = [("P " if one.kind == "r" else "ALL P ") + one.name for one in self.layout.arguments[at] if one.kind in "rl"]
+        concluded = "P %s" % self.layout.term(at)
+        return "%s ==> %s" % (" /\\ ".join(hypotheses), concluded) if hypotheses else concluded
+
+    def _symmetric(self, at: int) -> str:
+        """A constructor's definition from right to left."""
+        theorem = "pk_%s_DEF" % self.data.constructors[at].name
+        for one in self.layout.arguments[at]:
+            theorem = "(SPEC `%s:%s` %s)" % (one.name, tyshow(one.type), theorem)
+        return "SYM %s" % theorem
+
+    def _unfolded(self) -> str:
+        """The steps from all labels and children to each constructor."""
+        found = "REWRITE_TAC [FORALL_SUM] THEN BETA_TAC THEN REWRITE_TAC [FORALL_PAIR; FORALL_ONE; pk_%s_AR_DEF; sum_CASE; K_THM; pk_ALLK] " \
+                "THEN BETA_TAC THEN REWRITE_TAC [FORALL_PAIR; FORALL_ONE; sum_CASE; K_THM; pk_ALLK; FST; SND] THEN BETA_TAC" % self.name
+        if self.layout.has_lists:
+            found += " THEN REWRITE_TAC [FST; SND] THEN REWRITE_TAC [pk_ALLK; pk_ALLK_ADD; pk_ALLK_LEN] THEN BETA_TAC " \
+                     "THEN REWRITE_TAC [pk_ALLK; pk_ALLK_LEN] THEN BETA_TAC"
+        return found
+
+    # ---- Recursion
+
+    def _recursion(self) -> None:
+        name, layout, result = self.name, self.layout, self.result
+        trees = layout.every(lambda at: "fn %s = h %s %s (MAP fn %s)" % (layout.term(at), layout.label(at), layout.children(at), layout.children(at)))
+        label = "h:%s->%s list->%s list->%s" % (layout.labels, layout.tight, result, result)
+        general = self._at("pk_TYPE_RECURSION", "; `:%s`,`:B`" % result)
+        closed = "REWRITE_TAC [%s]" % self.counting.replace("; NUM_EQ_CLAUSES", "")
+        if layout.has_lists:
+            closed += " THEN BETA_TAC THEN REWRITE_TAC [FST; SND; %s]" % _ALL_LISTS
+        self.out.prove("pk_%s_REC" % name, "!h. ?fn:%s->%s. %s" % (layout.tight, result, trees), " THEN ".join((
+            "GEN_TAC THEN MP_TAC (SPEC `%s` %s) THEN REWRITE_TAC [pk_ALLK_THM] THEN BETA_TAC THEN STRIP_TAC" % (label, general),
+            "EXISTS_TAC `fn:%s->%s` THEN REPEAT CONJ_TAC THEN REPEAT GEN_TAC" % (layout.tight, result),
+            "PURE_REWRITE_TAC [%s] THEN FIRST_ASSUM MATCH_MP_TAC" % self.definitions, closed)))
+        functions = " ".join("(f%d:%s)" % (at, layout.recursion_type(at, result)) for at in range(layout.count))
+        body, unfold = self._recursor(functions)
+        self.out.prove(self.data.recursion, "!%s. ?fn:%s->%s. %s" % (functions, layout.tight, result, layout.every(self._recursive)),
+                       "REPEAT GEN_TAC THEN MP_TAC (SPEC `%s` pk_%s_REC) THEN BETA_TAC THEN PURE_REWRITE_TAC [%ssum_CASE] THEN BETA_TAC THEN "
+                       "PURE_REWRITE_TAC [FST; SND; HD; TL; MAP; MAP_APPEND; pk_TAKE; pk_DROP] THEN DISCH_THEN ACCEPT_TAC" % (body, name, unfold), PUBLIC)
+
+    def _recursor(self, functions: str) -> Tuple[str, str]:
+        """What is done at a label with its children and their values; and a theorem to unfold it."""
+        name, layout = self.name, self.layout
+        every = cases([self._at_label(at) for at in range(layout.count)])
+        bound = "(a:%s) (l:%s list) (m:%s list)" % (layout.labels, layout.tight, self.result)
+        if layout.count <= _MOST_PLAIN:
+            return "\\%s. %s a" % (bound, every), ""
+        self.out.put("new_definition pk_%s_H_DEF `pk_%s_H %s %s = %s a`" % (name, name, functions, bound, every))
+        self.out.made("pk_%s_H_DEF" % name, None)
+        return "pk_%s_H %s" % (name, functions), "pk_%s_H_DEF; " % name
+
+    def _at_label(self, at: int) -> str:
+        layout = self.layout
+        parts, values = layout.split(at, "l"), layout.split(at, "m")
+        arguments = [parts[one.name] if one.kind in "rl" else layout.projected(at, one.name) for one in layout.arguments[at]]
+        arguments += [values[one.name] for one in layout.arguments[at] if one.kind in "rl"]
+        return "(\\p. %s)" % " ".join(["(f%d:%s)" % (at, layout.recursion_type(at, self.result))] + arguments)
+
+    def _recursive(self, at: int) -> str:
+        """The equation of a recursive function at a constructor."""
+        arguments = [one.name for one in self.layout.arguments[at]]
+        arguments += ["(fn %s)" % one.name if one.kind == "r" else "(MAP fn %s)" % one.name for one in self.layout.arguments[at] if one.kind in "rl"]
+        return "fn %s = %s" % (self.layout.term(at), " ".join(["f%d" % at] + arguments))
+
+    # ---- Equations between constructors
+
+    def _equations(self) -> None:
+        distinct, injective = self._pairs()
+        if not distinct and not injective:
+            return
+        layout, name = self.layout, self.name
+        trees: List[str] = []
+        every = [layout.forall(at, "dest_%s %s = pk_ROSE %s (MAP dest_%s %s)" % (name, layout.term(at), layout.label(at), name, layout.children(at)))
+                 for at in range(layout.count)]
+        proof = "REPEAT CONJ_TAC THEN REPEAT GEN_TAC THEN PURE_REWRITE_TAC [%s] THEN REWRITE_TAC [SYM pk_%s_REP; pk_WELL_ROSE; LENGTH_MAP; %s] THEN " \
+                "BETA_TAC THEN REWRITE_TAC [FST; SND; %s; %s]" % (self.definitions, name, self.counting, _ALL_LISTS, self._at("pk_TYPE_MAPS"))
+        for part in chunks(every):
+            trees.append("pk_%s_DEST%s" % (name, len(trees) + 1 if trees else ""))
+            self.out.prove(trees[-1], " /\\ ".join(part), proof)
+        first = "ONCE_REWRITE_TAC [SYM (SPEC `y:%s` (SPEC `x:%s` (CONJUNCT2 %s)))]" % (layout.type, layout.type, self._at("pk_TYPE_DEST"))
+        start = "REPEAT CONJ_TAC THEN REPEAT GEN_TAC THEN %s THEN REWRITE_TAC [%s; pk_ROSE_INJ; %s; sum_INJECTIVE; sum_DISTINCT; INR_NOT_INL]" % (
+            first, "; ".join(trees), self._at("pk_MAP_INJ"))
+        for kind, parts, end in (("DISTINCT", distinct, ""), ("INJECTIVE", injective, self._injected())):
+            for number, part in enumerate(chunks(parts)):
+                self.out.prove("%s_%s%s" % (name, kind, number + 1 if number else ""), " /\\ ".join(part), start + end, PUBLIC)
+
+    def _pairs(self) -> Tuple[List[str], List[str]]:
+        """That constructors are apart, and that one of equal ones has equal arguments."""
+        layout = self.layout
+        distinct: List[str] = []
+        injective: List[str] = []
+        for first in range(layout.count):
+            for second in range(layout.count):
+                bound = (layout.variables(first) + " " + layout.variables(second, "'")).strip()
+                bound = "!%s. " % bound if bound else ""
+                left, right = layout.term(first), layout.term(second, "'")
+                if first != second:
+                    distinct.append("(%s~(%s = %s))" % (bound, left, right))
+                elif bound:
+                    same = " /\\ ".join("%s = %s'" % (one.name, one.name) for one in layout.arguments[first])
+                    injective.append("(%s%s = %s <=> %s)" % (bound, left, right, same))
+        return distinct, injective
+
+    def _injected(self) -> str:
+        """From equal labels and equal children that the arguments are equal: lists of equal lengths are taken off one by one."""
+        ways = [self._peeled(at) for at in range(self.layout.count) if self.data.constructors[at].kinds.count("l") > 1]
+        closed = "EQ_TAC THEN STRIP_TAC THEN ASM_REWRITE_TAC []" + (" THEN FIRST [%s]" % "; ".join(ways) if ways else "")
+        return " THEN REWRITE_TAC [LIST_EQ_CLAUSES; PAIR_EQ; FORALL_SIMP] THEN REWRITE_TAC [CONJUNCT2 %s; FORALL_SIMP] THEN %s" % (
+            self._at("pk_TYPE_DEST"), closed)
+
+    def _peeled(self, at: int) -> str:
+        lists = [one.name for one in self.layout.arguments[at] if one.kind == "l"]
+        type_ = self.layout.tight + " list"
+
+        def appended(names: List[str], mark: str) -> str:
+            found = names[-1] + mark
+            for name in reversed(names[:-1]):
+                found = "(APPEND %s%s %s)" % (name, mark, found)
+            return found
+
+        steps = []
+        for number, name in enumerate(lists[:-1]):
+            rest, whole = lists[number + 1:], lists[number:]
+            theorem = "(INST_TYPE [`:%s`,`:A`] pk_APPEND_EQ)" % self.layout.type
+            for term in (name, name + "'", appended(rest, ""), appended(rest, "'")):
+                theorem = "(SPEC `(%s:%s)` %s)" % (term, type_, theorem)
+            lengths = "(ASSUME `LENGTH (%s:%s) = LENGTH (%s':%s)`)" % (name, type_, name, type_)
+            both = "(ASSUME `%s = (%s:%s)`)" % (appended(whole, ""), appended(whole, "'"), type_)
+            steps.append("STRIP_ASSUME_TAC (MP (MP %s %s) %s)" % (theorem, lengths, both))
+        return "(%s THEN ASM_REWRITE_TAC [])" % " THEN ".join(steps)
+
+    # ---- Cases
+
+    def _cases(self) -> None:
+        layout, name, out = self.layout, self.name, self.out
+        out.prove(self.data.split, "!P. %s ==> (!) P" % layout.every(lambda at: "P %s" % layout.term(at)),
+                  "GEN_TAC THEN STRIP_TAC THEN MATCH_MP_TAC %s THEN REPEAT CONJ_TAC THEN REPEAT STRIP_TAC THEN ASM_REWRITE_TAC []" % self.data.induct, PUBLIC)
+        variable = fresh("x", layout.taken)
+        one_of = " \\/ ".join("(?%s. %s = %s)" % (layout.variables(at), variable, layout.term(at)) if layout.arguments[at] else "%s = %s" % (
+            variable, layout.term(at)) for at in range(layout.count))
+        steps = [("REPEAT GEN_TAC THEN " if layout.arguments[at] else "") + self._picked(at) for at in range(layout.count)]
+        opened = "MATCH_MP_TAC %s THEN BETA_TAC" % self.data.split
+        whole = "!%s:%s. %s" % (variable, layout.type, one_of)
+        if layout.count <= _MOST_PLAIN:
+            out.prove(name + "_CASES", whole, "%s THEN %s" % (opened, goals(steps)), PUBLIC)
+            return
+        constant = "pk_%s_CASED" % name
+        out.put("new_definition %s_DEF `%s (%s:%s) <=> %s`" % (constant, constant, variable, layout.type, one_of))
+        out.made(constant + "_DEF", None)
+        unfold = "PURE_REWRITE_TAC [%s_DEF]" % constant
+        parts: Steps = [opened]
+        parts = parts + conjuncts([[unfold, one] for one in steps])
+        proof: Steps = [("SUBGOAL_THEN `!%s:%s. %s %s` MP_TAC" % (variable, layout.type, constant, variable), [
+            parts, [unfold + " THEN DISCH_THEN ACCEPT_TAC"]])]
+        out.prove(name + "_CASES", whole, proof, PUBLIC)
+
+    def _picked(self, at: int) -> str:
+        """The steps that an element made by a constructor is the one of the disjunction."""
+        layout = self.layout
+        steps = ["DISJ2_TAC"] * at + ["DISJ1_TAC"] * (at < layout.count - 1)
+        steps += ["EXISTS_TAC `%s:%s`" % (one.name, tyshow(one.type)) for one in layout.arguments[at]]
+        return " THEN ".join(steps + ["REFL_TAC"])
+
+
+# ---- What functions need of a type, once it is needed
+
+
+def need_cases(data: Data, out: Output) -> None:
+    """Has the constant of cases of a type stand, with its equations."""
+    if data.is_of_library or out.asking.is_constant(data.case):
+        return
+    layout, result = Layout(data, out.asking), data.result
+    functions = " ".join("(f%d:%s)" % (at, layout.case_type(at, result)) for at in range(layout.count))
+
+    def value(at: int) -> str:
+        return " ".join(["f%d" % at] + [one.name for one in layout.arguments[at]])
+
+    theorem = "pk_%s_CASE_DEF" % data.name
+    out.put("new_definition %s `%s %s = @fn:%s->%s. %s`" % (
+        theorem, data.case, functions, layout.tight, result, layout.every(lambda at: "fn %s = %s" % (layout.term(at), value(at)))))
+    out.made(theorem, None)
+    recursion = data.recursion
+    for at in range(layout.count):
+        recursion = "(SPEC `%s` %s)" % (_case_function(layout, at, result), recursion)
+    for at in range(layout.count):
+        theorem = "(SPEC `f%d:%s` %s)" % (at, layout.case_type(at, result), theorem)
+    applied = "%s %s" % (data.case, " ".join("f%d" % at for at in range(layout.count)))
+    whole = "!%s. %s" % (functions, layout.every(lambda at: "%s %s = %s" % (applied, layout.term(at), value(at))))
+    out.prove(data.case, whole, "GEN_TAC THEN " * layout.count + _chosen(recursion, theorem), HIDDEN)
+    out.constant(data.case, fun(*[fun(*con.types, result) for con in data.constructors], data.type, result))
+
+
+def _case_function(layout: Layout, at: int, result: str) -> str:
+    if not layout.arguments[at]:
+        return "f%d:%s" % (at, result)
+    values = ["(rr%d:%s)" % (place, result if one.kind == "r" else result + " list") for place, one in enumerate(layout.arguments[at]) if one.kind in "rl"]
+    return "\\%s. (f%d:%s) %s" % (" ".join([layout.variables(at)] + values), at, layout.case_type(at, result),
+                                  " ".join(one.name for one in layout.arguments[at]))
+
+
+def _chosen(recursion: str, definition: str) -> str:
+    """The proof that a constant that is chosen has the property by which it is."""
+    return "MP_TAC %s THEN BETA_TAC THEN MATCH_MP_TAC pk_CHOSEN THEN SUBST1_TAC (SYM %s) THEN BETA_TAC THEN DISCH_THEN ACCEPT_TAC" % (recursion, definition)
+
+
+def need_size(data: Data, out: Output) -> None:
+    """Has the size of a type's elements stand, and that parts are smaller."""
+    if data.is_of_library or not data.size or out.asking.is_constant(data.size):
+        return
+    layout = Layout(data, out.asking)
+    equations = layout.every(lambda at: "fn %s = %s" % (layout.term(at), _size(layout, at, "(fn %s)", "(pk_SUM (MAP fn %s))")))
+    theorem = "pk_%s_SIZE_DEF" % data.name
+    out.put("new_definition %s `%s = @fn:%s->num. %s`" % (theorem, data.size, layout.tight, equations))
+    out.made(theorem, None)
+    recursion = "(INST_TYPE [`:num`,`:%s`] %s)" % (data.result, data.recursion)
+    for at in range(layout.count):
+        recursion = "(SPEC `%s` %s)" % (_size_function(layout, at), recursion)
+    out.prove(data.size, equations.replace("fn ", data.size + " "), _chosen(recursion, theorem), PUBLIC)
+    out.constant(data.size, fun(data.type, ("num",)))
+    smaller = [layout.forall(at, "lt (%s %s) (%s %s)" % (data.size, one.name, data.size, layout.term(at)))
+               for at in range(layout.count) for one in layout.arguments[at] if one.kind == "r"]
+    if data.less:
+        out.prove(data.less, " /\\ ".join(smaller),
+                  "REWRITE_TAC [%s; LT_SUC_LE] THEN REPEAT CONJ_TAC THEN REPEAT GEN_TAC THEN REWRITE_TAC [LE_REFL; LE_ADD; LE_ADDR] THEN "
+                  "REPEAT (MATCH_MP_TAC pk_LESS_RIGHT THEN REWRITE_TAC [LE_REFL; LE_ADD; LE_ADDR])" % data.size, PUBLIC)
+
+
+def _size(layout: Layout, at: int, of_part: str, of_list: str) -> str:
+    parts = [(of_part if one.kind == "r" else of_list) % one.name for one in layout.arguments[at] if one.kind in "rl"]
+    return "SUC %s" % added(parts) if parts else "_0"
+
+
+def _size_function(layout: Layout, at: int) -> str:
+    values = " ".join("(r_%s:%s)" % (one.name, "num" if one.kind == "r" else "num list") for one in layout.arguments[at] if one.kind in "rl")
+    size = _size(layout, at, "r_%s", "(pk_SUM r_%s)")
+    return "\\%s %s. %s" % (layout.variables(at), values, size) if layout.arguments[at] else size

@@ -1,0 +1,186 @@
+"""Packages: what they stand for, where what is wrong is told, and what editors and the checker make of them."""
+
+import io
+import os
+import pathlib
+import tempfile
+import unittest
+from contextlib import redirect_stdout
+
+from holls import check, names, spelling
+from holls.files import File
+from holls.findings import Severity, findings
+from holls.graph import share_notation
+from holls.lsp import features
+from holls.packages.parts import Part
+from tests.helpers import BUILT, ROOT
+
+IMPORT = "import packages;;\n"
+LIBRARY = {}
+
+
+def library():
+    """The theory on which packages rest, with those that it imports."""
+    if not LIBRARY:
+        for file in next(iter(check.ordered([str(ROOT / "theories" / "packages.hol")]).values())):
+            LIBRARY[file.theory.name] = file
+    return list(LIBRARY.values())
+
+
+def read(text, is_imported=True):
+    """A file that imports the theory of packages."""
+    file = File("own.hol")
+    file.take((IMPORT if is_imported else "") + text)
+    share_notation([*library(), file])
+    return file
+
+
+def told(text):
+    """What is told of a file's text: each with the text that it is told of."""
+    file = read(text)
+    return [(file.lines.text[one.start:one.end], one.text) for one in findings(file) if one.severity <= Severity.WARNING]
+
+
+def made(text):
+    """The public names of a file's text."""
+    return [one.name for one in names.written(read(text))]
+
+
+class Types(unittest.TestCase):
+    def test_a_type_has_the_theorems_of_hol_light_under_their_names(self):
+        found = made("define_type exp = Numb num | Plus exp exp;;")
+        for name in ("exp", "Numb", "Plus", "exp_INDUCTION", "exp_RECURSION", "exp_CASES", "exp_DISTINCT", "exp_INJECTIVE"):
+            self.assertIn(name, found)
+        file = read("define_type exp = Numb num | Plus exp exp;;")
+        statements = {one.name: one.text for one in names.written(file)}
+        self.assertEqual(statements["exp_INDUCTION"],
+                         "!P. (!(a:num). P (Numb a)) /\\ (!(a0:exp) (a1:exp). P a0 /\\ P a1 ==> P (Plus a0 a1)) ==> !x. P x")
+        self.assertEqual(statements["exp_RECURSION"],
+                         "!(f0:num->Z) (f1:exp->exp->Z->Z->Z). ?fn:exp->Z. (!(a:num). fn (Numb a) = f0 a) /\\ "
+                         "(!(a0:exp) (a1:exp). fn (Plus a0 a1) = f1 a0 a1 (fn a0) (fn a1))")
+
+    def test_parameters_are_the_type_variables(self):
+        statements = {one.name: one.text for one in names.written(read("define_type tree = Leaf | Node A tree tree;;"))}
+        self.assertIn("Node a0 a1 a2", statements["tree_INDUCTION"])
+        self.assertIn("(a1:A tree)", statements["tree_INDUCTION"])
+
+    def test_what_is_wrong_is_told_at_its_word(self):
+        for text, where, words in (
+                ("define_type t = C t;;", "t", "no element"),
+                ("define_type t = C | C;;", "C", "twice"),
+                ("define_type t = SUC num;;", "SUC", "stands already"),
+                ("define_type num = C;;", "num", "stands already"),
+                ("define_type t = C (t option) | D;;", "(t option)", "under `option`"),
+                ("define_type t = C (t->bool) | D;;", "(t->bool)", "to the left of ->"),
+                ("define_type t = C (num list list) (q foo);;", "(q foo)", "no type"),
+                ("define_type t = C num list;;", "list", "takes 1 arguments"),
+                ("define_type t C;;", "", "has to be of the form"),
+                ("define_type t = C | ;;", "", "constructor's name is missing"),
+                ("define_type THEN = C;;", "THEN", "reserved")):
+            with self.subTest(text):
+                found = [one for one in told(text + "\ng A `x = x`;;\n") if one[1]]
+                self.assertEqual(len(found), 1, found)
+                self.assertIn(words, found[0][1])
+                self.assertTrue(found[0][0].startswith(where) if where else True, found)
+
+    def test_without_the_theory_the_import_is_named(self):
+        file = read("define_type t = C;;", False)
+        self.assertIn("import packages;;", findings(file)[0].text)
+
+    def test_a_taken_name_of_a_theorem_is_told(self):
+        found = told("new_axiom t_CASES `T`;;\ndefine_type t = C | D num;;")
+        self.assertEqual(len(found), 1)
+        self.assertIn("t_CASES", found[0][1])
+
+    def test_nothing_else_in_the_file_is_lost(self):
+        file = read("define_type t = C t;;\ndefine_type u = E | G u;;\n")
+        self.assertIn("u_INDUCTION", [one.name for one in names.written(file)])
+
+    def test_hostile_texts_are_told_and_end(self):
+        deep = "(" * 5000 + "num" + ")" * 5000
+        arrows = "(" + "num->" * 3000 + "num)"
+        self.assertEqual(told("define_type t = C %s;;" % deep), [])
+        for text in ("define_type t = C %s;;" % arrows, "define_type", "define_type t =", "define_type t = %s;;" % "C" * 300,
+                     "define_type t = " + " | ".join("C%d" % at for at in range(500)) + ";;", "define_type `;;", "define_type t = C (num;;"):
+            with self.subTest(text[:40]):
+                self.assertTrue(told(text))
+
+
+class Files(unittest.TestCase):
+    def test_a_file_without_packages_is_sent_as_it_is(self):
+        text = "import arithmetic;;\ng A `x = x`;;\ne REFL_TAC;;\nqed;;\n"
+        file = read(text, False)
+        self.assertEqual([one.text for one in file.commands], [part.strip() for part in text.split(";;")[:-1]])
+        self.assertFalse(any(isinstance(one, Part) for one in file.commands))
+
+    def test_a_package_is_one_thing_to_editors(self):
+        file = read("define_type t = C | D num;;\ng A `x = x`;;\ne REFL_TAC;;\nqed;;\n")
+        self.assertEqual([one["name"] for one in features.symbols(file)], ["t", "A"])
+        self.assertEqual(len(features.foldings(file)), 1)
+
+    def test_expand_writes_an_ordinary_file_that_has_the_same_commands(self):
+        file = read("define_type t = C | D num;;\ng A `x = C`;;\nsorry;;\n")
+        text, troubles = spelling.expanded(file)
+        self.assertEqual(troubles, [])
+        again = File("own.hol")
+        again.take(text)
+        share_notation([*library(), again])
+        self.assertEqual([one.text for one in again.commands], [one.text for one in file.commands])
+        self.assertIn("(* define_type t = C | D num;; *)", text)
+
+    def test_a_type_of_an_imported_file_is_read_anew_where_it_changes(self):
+        first, second = File("first.hol"), File("second.hol")
+        first.take(IMPORT + "define_type t = C;;")
+        second.take("import first;;\ndefine_type u = E t;;")
+        share_notation([*library(), first, second])
+        self.assertFalse([one for one in findings(second) if one.severity == Severity.ERROR])
+        first.take(IMPORT + "define_type t = C A;;")
+        share_notation([*library(), first, second])
+        self.assertIn("takes 1 arguments", "".join(one.text for one in findings(second)))
+
+
+class Sorry(unittest.TestCase):
+    def test_a_proof_that_sorry_ends_is_an_axiom_with_a_warning(self):
+        text = "g HARD `!x:num. x = x`;;\ne GEN_TAC;;\nsorry;;\ng B `T`;;\n"
+        self.assertEqual(told(text), [("sorry", "HARD isn't proved: it is an axiom by this sorry")])
+        file = read(text)
+        self.assertEqual([one.text for one in file.commands][-3:-1], ["oops", "new_axiom HARD `!x:num. x = x`"])
+        self.assertIn("HARD", [one.name for one in names.written(file)])
+
+    def test_where_no_proof_is_open_it_is_wrong(self):
+        self.assertIn("no proof is open", told("sorry;;")[0][1])
+
+    def test_the_outline_has_the_goal_once(self):
+        self.assertEqual([one["name"] for one in features.symbols(read("g A `T`;;\nsorry;;\n"))], ["A"])
+
+
+def checked(text, *words):
+    """The status of a check of a file that imports the theory of packages, and what it says."""
+    with tempfile.TemporaryDirectory() as folder:
+        for name in LIBRARY or [file.theory.name for file in library()]:
+            os.symlink(str(ROOT / "theories" / (name + ".hol")), os.path.join(folder, name + ".hol"))
+        path = pathlib.Path(folder) / "own.hol"
+        path.write_text(IMPORT + text)
+        parser = check.argparse.ArgumentParser()
+        check.add_words(parser)
+        said = io.StringIO()
+        with redirect_stdout(said):
+            status = check.main(parser.parse_args(["--server", str(BUILT), "--jobs", "1", *words, str(path)]))
+        return status, said.getvalue()
+
+
+@unittest.skipUnless(BUILT.is_file(), "hol_serve isn't built")
+class OverTheProgram(unittest.TestCase):
+    def test_all_is_accepted_and_sorry_fails(self):
+        text = "define_type colour = Red | Green | Blue;;\n" \
+               "define_type exp = Numb num | Sum (exp list) | Two (exp list) num (exp list) exp;;\n" \
+               "define_type tree = Leaf | Node A tree tree;;\ng COLOURS `!x. x = Red \\/ x = Green \\/ x = Blue`;;\ne ACCEPT_TAC colour_CASES;;\nqed;;\n" \
+               "g HARD `!x:num. x = x`;;\nsorry;;\ng LATER `!x:num. x = x`;;\ne ACCEPT_TAC HARD;;\nqed;;\n"
+        status, said = checked(text, "--axioms", "--alone")
+        self.assertEqual(status, 1)
+        self.assertEqual([line.split(": ", 1)[1] for line in said.split("\n") if " error: " in line],
+                         ["error: HARD isn't proved: it is an axiom by this sorry"])
+        rests = {line.split(": ", 1)[1].split(" ")[0]: line for line in said.split("\n") if " rests on " in line}
+        self.assertIn("axiom:HARD", rests["LATER"].split("rests on")[1])
+        for name in ("COLOURS", "exp_RECURSION", "exp_INJECTIVE", "tree_DISTINCT"):
+            self.assertNotIn("axiom", rests[name])
