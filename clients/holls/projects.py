@@ -75,7 +75,7 @@ class Project:
         return found[0] if len(found) == 1 else found
 
     def _found(self, name: str) -> List[str]:
-        found = self._paths.get(name) or (_of_library(name) if self.has_library else [])
+        found = self._paths.get(name) or (in_library(name) if self.has_library else [])
         return [path for path in found if any(disk.is_within(path, folder) for folder in self.within)] if self.within else found
 
     def missing(self, name: str) -> str:
@@ -83,7 +83,7 @@ class Project:
         found = self._found(name)
         if self._paths.get(name) and not found:
             return "the file %s lies outside of %s, which --within names" % (self._paths[name][0], " and ".join(self.within))
-        if not found and self.has_library and _of_library(name):
+        if not found and self.has_library and in_library(name):
             return "the theory %s is the library's, which lies outside of %s: add --within %s" % (name, " and ".join(self.within), LIBRARY)
         if found:
             return "the theory %s has several files in this project: %s; rename all but one" % (name, ", ".join(found))
@@ -133,7 +133,7 @@ class Project:
         return None if missing is None else "%s: there is no folder %s" % (path, missing)
 
 
-def _of_library(name: str) -> List[str]:
+def in_library(name: str) -> List[str]:
     """The library's file of a theory, if it has one."""
     path = os.path.join(LIBRARY, name + SUFFIX)
     return [path] if name.isidentifier() and os.path.isfile(path) else []

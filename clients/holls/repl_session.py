@@ -202,12 +202,12 @@ class Session:
         base = self.theory
         if name not in base.project.files:
             having = [one for one in self.projects if name in one.files]
-            if not having:
+            if not having and not base.project.take_of_library(name):
                 known = sorted({one for project in self.projects for one in project.names})
                 raise Wrong("there is no theory %s: %s" % (name, "there are " + ", ".join(known) if known else "name a folder by holls repl --in FOLDER"))
-            if len(having) > 1 or base.project.files:
+            if len(having) > 1 or having and base.project.files:
                 raise Wrong("%s is in several projects, or in another one than what stands: name one folder by holls repl --in FOLDER" % name)
-            base = having[0].text(base.text, base.name)
+            base = (having or [base.project])[0].text(base.text, base.name)
         told = self._make("import " + name, base)
         return told if told.refused is not None else Told("%d names are taken from %s" % (len(told.text.splitlines()), name))
 

@@ -15,7 +15,7 @@ from holls.findings import Severity, findings
 from holls.lsp import goals
 from tests.helpers import BUILT, ROOT, SECONDS
 
-PAGES = ("README.md",)
+PAGES = ("README.md", "docs/TUTORIAL.md")
 FENCE = re.compile(r"^```(hol fails|hol|shown)\n(.*?)^```$", re.M | re.S)
 
 

@@ -51,6 +51,13 @@ class OverTheFakeServer(unittest.TestCase):
         """The conclusions of the open goals."""
         return [goal.conclusion for goal in self.session.state.goals]
 
+    def test_the_library_is_found_from_everywhere(self):
+        told = self.run_all("import pairs")
+        self.assertTrue(told.text.endswith(" names are taken from pairs"), told.text)
+        self.assertIn("logic", self.session.theory.project.files)
+        with self.assertRaises(Wrong):
+            self.session.run("import nothing_of_this_name")
+
     def test_a_proof_with_steps_back(self):
         self.run_all("g SPLIT `a = a /\\ b = b`", "e CONJ_TAC")
         self.assertEqual(self.goals(), ["a = a", "b = b"])

@@ -16,7 +16,7 @@ from holls.api.values import Checked, Finding, ProgramDied, ProverError, Refused
 from holls.files import File
 from holls.findings import Finding as Found
 from holls.findings import Severity, findings
-from holls.projects import SUFFIX
+from holls.projects import SUFFIX, in_library
 from holls.protocol import Goals, Lost, Made, Refusal, Reply
 from holls.sent import Sent
 from holls.surface.errors import Misread
@@ -86,7 +86,7 @@ class Project:
         file.take(text)
         refused = []
         for wanted in file.imports:
-            if wanted not in self.files:
+            if wanted not in self.files and not self.take_of_library(wanted):
                 graph.tell_import(file, wanted, "there is no theory %s in this project" % wanted)
             elif any(other.theory.name == name for other in graph.ordered_from(self.files[wanted], self.files)):
                 graph.tell_import(file, wanted, "imports go in a circle here: %s imports a theory of the name %s" % (wanted, name))
@@ -94,6 +94,14 @@ class Project:
         file.refuse(refused)
         graph.know_imports(file, self.files)
         return Theory(self, file)
+
+    def take_of_library(self, name: str) -> bool:
+        """Takes a theory of the library, with what it imports, where the project has none of the name. Whether the library has one."""
+        for path in in_library(name):
+            for file in (one for own in _roots([path]).values() for one in own):
+                self.files.setdefault(file.theory.name, file)
+            return True
+        return False
 
     def imports(self, file: File) -> List[File]:
         """What a file imports, also by way of others, in order."""
