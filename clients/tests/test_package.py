@@ -1,14 +1,18 @@
-"""The package for VS Code: what is in it, and that its bridge runs."""
+"""The package for VS Code, and the one for Python: what is in them, and that the clients run from there."""
 
+import importlib.util
 import json
+import os
 import pathlib
+import re
+import shutil
 import subprocess
 import tempfile
 import unittest
 import xml.dom.minidom
 import zipfile
 
-from tests.helpers import CLIENTS, PYTHON, SECONDS
+from tests.helpers import CLIENTS, PYTHON, ROOT, SECONDS, fake
 
 
 class Package(unittest.TestCase):
@@ -31,8 +35,36 @@ class Package(unittest.TestCase):
                 for grammar in about["contributes"]["grammars"]:
                     self.assertIn("extension/" + grammar["path"][2:], inside)
                 package.extractall(folder)
-            words = [*PYTHON, str(folder / "extension" / "bin" / "holls"), "check", "--help"]
-            self.assertIn(b"--no-axioms", subprocess.run(words, capture_output=True, timeout=SECONDS, check=True).stdout)
+            self.assertIn("extension/holls/data/theories/sets.hol", inside)
+            self.finds_the_library(folder, [*PYTHON, str(folder / "extension" / "bin" / "holls")])
+
+    def finds_the_library(self, folder, words, **how):
+        """The clients that these words start find a theory of the library from a folder that has none."""
+        (folder / "A.hol").write_text("import one;;\nimport no_such_theory;;\n")
+        words = [*words, "check", "--server", fake(folder), "A.hol"]
+        ran = subprocess.run(words, cwd=str(folder), capture_output=True, timeout=SECONDS, **how)
+        self.assertNotIn(b"there is no file one.hol", ran.stdout)
+        self.assertIn(b"there is no file no_such_theory.hol", ran.stdout, ran.stderr)
+
+    def test_the_package_for_python_names_all_folders(self):
+        text = (ROOT / "pyproject.toml").read_text(encoding="utf-8")
+        named = set(re.findall(r'"(holls[\w.]*)"', re.search(r"^packages = \[(.*?)\]", text, re.M | re.S).group(1)))
+        folders = {".".join(path.parent.relative_to(CLIENTS).parts) for path in (CLIENTS / "holls").rglob("__init__.py")}
+        self.assertEqual({name for name in named if not name.startswith("holls.data.")}, folders)
+
+    @unittest.skipUnless(importlib.util.find_spec("setuptools"), "setuptools isn't installed")
+    def test_the_package_for_python_is_made_and_finds_the_library(self):
+        with tempfile.TemporaryDirectory() as name:
+            tree, made = pathlib.Path(name) / "tree", pathlib.Path(name) / "made"
+            tree.mkdir()
+            for one in ("pyproject.toml", "setup.cfg", "README.md", "LICENSE", "build"):
+                shutil.copy(str(ROOT / one), str(tree))
+            for one in ("clients/holls", "theories", "page", "release"):
+                shutil.copytree(str(ROOT / one), str(tree / one), ignore=shutil.ignore_patterns("__pycache__"))
+            words = [*PYTHON[:1], "-W", "ignore", "-c", "import setuptools; setuptools.setup()", "-q", "build", "--build-lib", str(made)]
+            subprocess.run(words, cwd=str(tree), check=True, capture_output=True, timeout=SECONDS)
+            self.assertTrue((made / "holls" / "data" / "page" / "index.html").is_file())
+            self.finds_the_library(pathlib.Path(name), [*PYTHON[:1], "-m", "holls"], env=dict(os.environ, PYTHONPATH=str(made)))
 
 
 if __name__ == "__main__":
