@@ -1,8 +1,7 @@
 #!/usr/bin/env python3
-"""The index of theorems in theories/README.md: by file, and in each by the comments that stand above its parts.
+"""The index of the library's theorems: by file, and in each by the comments that stand above its parts.
 
-    python3 theories/index.py            says whether the index is what the files make it; status 1 where it isn't
-    python3 theories/index.py --write    writes it
+    python3 theories/index.py    writes it to out/THEORIES.md; status 1 where a file gives none
 
 A part begins with a comment that has a line of its own before and behind it; its first sentence is the part's title. What a file gives and needs is
 the comment at its head."""
@@ -17,8 +16,7 @@ HERE = pathlib.Path(__file__).resolve().parent
 sys.path.insert(0, str(HERE.parent / "clients"))
 from holls.text import cut  # noqa: E402 (clients/holls)
 
-PAGE = HERE / "README.md"
-BEGIN, END = "<!-- Made by theories/index.py --write, from here -->", "<!-- to here. -->"
+PAGE = HERE.parent / "out" / "THEORIES.md"
 WIDTH = 160
 DEFINING = {"new_definition": 1, "new_basic_type_definition": 2}
 """Commands beside g that make theorems, and how many."""
@@ -43,7 +41,7 @@ class Theory:
     def lines(self):
         """Its part of the index."""
         gives = sentence(re.sub(r" Needs .*", "", self.head))
-        needs = f" Imports {', '.join(f'[{name}]({name}.hol)' for name in self.imports)}." if self.imports else ""
+        needs = f" Imports {', '.join(f'[{name}](../theories/{name}.hol)' for name in self.imports)}." if self.imports else ""
         counts = f"{len(self.proofs)} theorems, {self.definitions} more by definitions, {self.commands} commands."
         yield f"### {self.name}"
         yield ""
@@ -88,30 +86,33 @@ def in_order(theories):
     return done
 
 
-def index():
-    theories = in_order([Theory(path) for path in HERE.glob("*.hol")])
+def faults(theory):
+    """What a reader of the index would miss: a file that doesn't say what it gives, theorems of no part."""
+    if not theory.head:
+        yield f"{theory.name}.hol doesn't begin with a comment that says what it gives"
+    if sum(len(names) for _, names in theory.parts) != len(theory.proofs):
+        yield f"{theory.name}.hol has theorems that stand in no part"
+
+
+def index(theories):
     count = sum(len(theory.proofs) for theory in theories)
     commands = sum(theory.commands for theory in theories)
-    lines = [f"{count} theorems are proved in {len(theories)} files of {commands:,} commands.", ""]
+    lines = ["# The library's theorems", "", f"{count} theorems are proved in {len(theories)} files of {commands:,} commands.", ""]
     for theory in theories:
         lines += theory.lines()
     return "\n".join(lines)
 
 
 def main():
-    parser = argparse.ArgumentParser(description=__doc__.split("\n")[0])
-    parser.add_argument("--write", action="store_true", help="write the index")
-    page = PAGE.read_text(encoding="utf-8")
-    before, rest = page.split(BEGIN, 1)
-    behind = rest.split(END, 1)[1]
-    made = f"{before}{BEGIN}\n\n{index()}{END}{behind}"
-    if parser.parse_args().write:
-        PAGE.write_text(made, encoding="utf-8")
-    elif made != page:
-        print("theories/README.md: the index isn't what the files make it: python3 theories/index.py --write")
-        return 1
-    print("theories/README.md: the index is what the files make it")
-    return 0
+    argparse.ArgumentParser(description=__doc__.split("\n")[0]).parse_args()
+    theories = in_order([Theory(path) for path in HERE.glob("*.hol")])
+    wrong = [fault for theory in theories for fault in faults(theory)]
+    for fault in wrong:
+        print(fault)
+    PAGE.parent.mkdir(exist_ok=True)
+    PAGE.write_text(index(theories), encoding="utf-8")
+    print(f"the index of {len(theories)} theories is out/{PAGE.name}; {len(wrong)} faults")
+    return 1 if wrong else 0
 
 
 if __name__ == "__main__":
