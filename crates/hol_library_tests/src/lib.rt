@@ -1,18 +1,16 @@
-//! Unit tests of what the program doesn't show: which texts are one command, calls of the crates above the prelude that it doesn't make, most of them copies of values, and
-//! calls that are made again where memory was refused. They stand in a crate of their own, since a crate with tests is proved twice.
+//! Unit tests of what the program doesn't show: calls of the crates above the prelude that it doesn't make, most of them copies of values, and calls that are
+//! made again where memory was refused. They stand in a crate of their own, since a crate with tests is proved twice.
 #![tactic(auto)]
 
 #[cfg(test)]
 mod again_tests;
 #[cfg(test)]
-mod commands_tests;
-#[cfg(test)]
 mod copies_tests;
-#[cfg(test)]
-mod limits_tests;
 #[cfg(test)]
 mod names_tests;
 #[cfg(test)]
 mod reductions_tests;
 #[cfg(test)]
 mod steps_tests;
+#[cfg(test)]
+mod texts_tests;

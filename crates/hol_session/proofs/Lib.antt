@@ -4,3 +4,7 @@ pub mod Sessions
 pub mod Chunks
 pub mod Runs
 pub mod Machines
+pub mod Theorems
+pub mod Origins
+pub mod Finished
+pub mod WholeTexts

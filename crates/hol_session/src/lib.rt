@@ -5,9 +5,14 @@
 
 mod answering;
 mod ending;
+mod laws;
 mod lines;
 mod serving;
 
 pub use ending::Ending;
+pub use laws::{
+    finished_proofs_tell_their_goals, replies_tell_of_theorems, texts_are_their_lines,
+    theorems_have_origins,
+};
 pub use lines::{Fault, Sink, Source, Watched, WriteFault, write_reply};
-pub use serving::run;
+pub use serving::{answer_all, run};

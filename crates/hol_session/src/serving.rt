@@ -1,12 +1,13 @@
 //! The lines of a reader, answered over documents.
 
-ghost use Rattle.std.specs.Prelude.{◌≡◌, ◌≢◌, ◌⊎◌, Err, OnOk};
-ghost use Rattle.hol_session.specs.Lines.{read_limit};
+ghost use Rattle.std.specs.Prelude.{◌≡◌, ◌≢◌, ◌⊎◌, [], Bool, Err, Some, IfOk, OnOk};
+ghost use Rattle.hol_session.specs.Lines.{lines_of, read_limit};
 ghost use Rattle.hol_session.specs.Machine.{MayAnswer, counted};
-ghost use Rattle.hol_session.specs.Session.{CountsUp, Finishes, StopsReading, StopsWriting};
+ghost use Rattle.hol_session.specs.Session.{Answers, CountsUp, Finishes, StopsReading, StopsWriting};
+ghost use Rattle.hol_session.specs.Theorems.{WritesTheorems};
 
 use crate::answering::answer;
-use crate::lines::{Fault, Service, Sink, Source, run_lines};
+use crate::lines::{Fault, Service, Sink, Source, Watched, run_lines};
 use hol_document::Editable;
 use hol_wire::{Reply, line_too_long};
 use std::alloc::Global;
@@ -52,6 +53,8 @@ pub fn run<R: Source, W: Sink, D: Editable>(
     ensures write_fault { result ≡ Err Fault.Write → StopsWriting MayAnswer (counted (D.value docs.old) (D.ran docs.old)) (counted (D.value docs.new) (D.ran docs.new))
         (R.remaining reader.old) (R.remaining reader.new) (W.contents writer.old) (W.contents writer.new)
         × W.has_failed writer.new }
+    // Each theorem that is told of is one.
+    ensures theorems { WritesTheorems (W.contents writer.old) (W.contents writer.new) }
     // No fault is passed over.
     ensures reads { result ≢ Err Fault.Read → R.has_failed reader.new → R.has_failed reader.old }
     ensures writes { result ≢ Err Fault.Write → W.has_failed writer.new → W.has_failed writer.old }
@@ -59,4 +62,22 @@ pub fn run<R: Source, W: Sink, D: Editable>(
         → (reader.new ≡ reader.old) × (writer.new ≡ writer.old) × (D.value docs.new ≡ D.value docs.old) × (D.ran docs.new ≡ D.ran docs.old) }
 {
     run_lines(alloc, reader, writer, &JsonLines, docs)
+}
+
+/// Answers the lines of a text over the documents, as `run` does those of a reader: the bytes of the replies, up to the last line or to a reply that closes
+/// the session. The documents go on.
+///
+/// # Errors
+/// - `Fault::Memory` where the buffer of one line isn't had: nothing was answered.
+/// - `Fault::Write` where memory for the replies isn't had: some of the lines were answered, and the documents are those after them.
+/// - `Fault::Read` after 2^32 pieces of 4,096 bytes, with the same.
+pub fn answer_all<D: Editable>(alloc: Global, text: &[u8], docs: &mut D) -> Result<Vec<u8>, Fault>
+    ensures answers { IfOk result (λ bytes. (closed : Bool)
+        × Answers MayAnswer (counted (D.value docs.old) (D.ran docs.old)) (lines_of text.now) bytes.items closed (counted (D.value docs.new) (D.ran docs.new))) }
+    ensures theorems { IfOk result (λ bytes. WritesTheorems (Some []) (Some bytes.items)) }
+{
+    let mut reader = Watched::new(text);
+    let mut writer = Watched::new(Vec::new(alloc));
+    run(alloc, &mut reader, &mut writer, docs)?;
+    Ok(writer.inner)
 }

@@ -1,0 +1,41 @@
+//! Laws of what replies show.
+ghost use Rattle.std.specs.Prelude.{◌≡◌, ℕ, List, [], ◌∷◌, ◌++◌, codes, Some, None};
+ghost use Rattle.std.specs.List.{All};
+ghost use Rattle.hol_terms.specs.Nameless.{Nameless};
+ghost use Rattle.hol_exec.specs.ReportOf.{theorem_text};
+ghost use Rattle.hol_exec.specs.ReportValue.{ReportValue, HasMade};
+ghost use Rattle.hol_notation_commands.specs.Text.{Local, Qed};
+ghost use Rattle.hol_notation_commands.specs.Reading.{Reads};
+ghost use Rattle.hol_wire.specs.Replies.{ReplyValue};
+ghost use Rattle.hol_document.specs.Documents.{Documents};
+ghost use Rattle.hol_document.specs.Afresh.{TheoryRun, AreRunsOf};
+ghost use Rattle.hol_document.specs.Shown.{open_goal, IsProvedReport};
+ghost use Rattle.hol_session.specs.Lines.{begun_line, whole_lines, text_of_lines, HasNoNewline};
+ghost use Rattle.hol_session.specs.Machine.{Counted, Machine};
+ghost use Rattle.hol_session.specs.Origins.{HasOrigin};
+ghost use Rattle.hol_session.specs.Theorems.{TellsOfTheorems};
+
+/// What a reply tells of theorems is so, whichever the line is.
+pub fn replies_tell_of_theorems()
+    ensures { (old new : Counted) (line : List ℕ) (reply : ReplyValue) → Machine old line reply new → TellsOfTheorems reply }
+{}
+
+/// The report on a `qed` that made something tells of one theorem: by its name and its statement, it is that of the last `g` that was accepted before it.
+pub fn finished_proofs_tell_their_goals()
+    ensures { (docs : Documents) (i at : ℕ) (report : ReportValue) (proved : IsProvedReport docs i at report) (texts : List (List ℕ))
+        → proved.is.row.value ≡ Reads (Local Qed) → report ≡ HasMade texts
+        → (name : List ℕ) × (statement : Nameless) × (open_goal None proved.is.rows ≡ Some (name, statement))
+        × (texts ≡ (codes "thm " ++ name ++ codes " " ++ theorem_text statement) ∷ []) }
+{}
+
+/// A theorem that a theory has was made there by a `qed`, an axiom, a definition or a type definition, or imported from an earlier theory, where it was.
+pub fn theorems_have_origins()
+    ensures { (docs : Documents) (before : List TheoryRun) (run : TheoryRun) (later : List TheoryRun)
+        → AreRunsOf docs (before ++ run ∷ later) → All (HasOrigin before run.rows) run.last.entries }
+{}
+
+/// A text is its lines with a newline behind each, and what follows the last of them; and no newline is in a line. So the lines are the ones that one means.
+pub fn texts_are_their_lines()
+    ensures { (text : List ℕ) → (text ≡ text_of_lines (whole_lines text) ++ begun_line [] text) × All HasNoNewline (whole_lines text)
+        × HasNoNewline (begun_line [] text) }
+{}
