@@ -59,6 +59,25 @@ TIERS = (
     Tier("Documents, commands and what is read", (RUN, PROGRAM), stops=(("hol_combine.specs.Runs", "run"),)),
     Tier("What expressions of TACs do to a goal", (RUN, PROGRAM)),
 )
+# Of the first tier what laws say all of that the rest takes from there: files, and definitions of a file.
+DECIDED = (
+    "hol_types/Code.antt",
+    "hol_types/Order.antt type_cmp",
+    "hol_types/Order.antt types_cmp",
+    "hol_types/Equal.antt",
+    "hol_types/Match.antt",
+    "hol_terms/Code.antt",
+    "hol_subst/AlphaOrder.antt",
+    "hol_subst/CodeOrder.antt",
+    *(f"hol_kernel/Item.antt {name}" for name in ("ItemParts", "item_to", "item_from", "item_back", "item_code")),
+    *(f"hol_kernel/Items.antt {name}" for name in ("item_cmp", "in_order_of", "in_order")),
+)
+DECIDED_TITLE = "Codes, orders and tests, said by laws"
+OF_DECIDED = """Nobody has to believe these: laws say all that is taken from them above. `orders_are_total` (crates/hol_model/src/definitions.rt): the orders are total
+and tie only what is equal, so that finite sets by them are sets as one means it; the tests of equality decide it; and `in_order` lists what a set holds.
+`instances_are_substitutions` (crates/hol_formulas/src/prelude.rt): a type is an instance of another exactly where some substitution for its type variables gives
+it. They aren't counted among the tier's lines."""
+LARGEST_FIRST_TIER = 600
 
 
 class Sentences:
@@ -140,6 +159,11 @@ class Definitions:
             self.foreign |= foreign
             before |= found
         self.all = before
+        self.decided = {d for d in self.tiers[0] if d.key in DECIDED or d.key.split(" ")[0] in DECIDED}
+
+    def counted(self, number):
+        """What counts as a tier's."""
+        return self.tiers[number] - self.decided
 
     def counts(self, definitions):
         lines = sum(len(d.lines) for d in definitions)
@@ -151,6 +175,11 @@ class Definitions:
         for key in self.sentences.of:
             if key not in known:
                 yield f"tests/definitions.txt has a sentence for {key}, which isn't reached"
+        for key in DECIDED:
+            if not any(key in (d.key, d.key.split(" ")[0]) for d in self.decided):
+                yield f"the first tier hasn't {key}, which laws are to decide"
+        if self.counts(self.counted(0))[1] > LARGEST_FIRST_TIER:
+            yield f"the first tier has more than {LARGEST_FIRST_TIER} lines"
         for tier, definitions in zip(TIERS, self.tiers):
             for d in sorted(definitions, key=lambda d: d.key):
                 if not self.of_file(d.module):
@@ -190,20 +219,33 @@ class Definitions:
 
     def page(self):
         lines = []
-        for number, (tier, definitions) in enumerate(zip(TIERS, self.tiers)):
+        for number, tier in enumerate(TIERS):
             lines += ["", f"## {number + 1}. {tier.title}", ""]
             lines += filled(self.of_tier(number, tier))
-            before = set().union(set(), *self.tiers[:number])
-            for crate in [c for c in self.crates if any(d.crate == c for d in definitions)]:
-                inside = {d for d in definitions if d.crate == crate}
-                size = self.counts(inside)
-                lines += ["", f"### {crate}, {count(size[0], 'definition')}, {count(size[1], 'line')}", ""]
+            before = {d.module for d in set().union(set(), *self.tiers[:number])}
+            for crate, inside in self.by_crate(self.counted(number)):
+                lines += ["", f"### {crate}, {self.size(inside)}", ""]
                 for module, found in self.files(inside, crate):
-                    lines += self.of_module(tier, module, found, module in {d.module for d in before})
+                    lines += self.of_module(tier, module, found, module in before)
+            lines += self.of_decided(tier) if number == 0 else []
         return [*lines, *self.of_foreign(), *self.of_the_rest()]
 
+    def by_crate(self, definitions):
+        return [(c, inside) for c in self.crates if (inside := {d for d in definitions if d.crate == c})]
+
+    def size(self, definitions):
+        number, lines, *_ = self.counts(definitions)
+        return f"{count(number, 'definition')}, {count(lines, 'line')}"
+
+    def of_decided(self, tier):
+        lines = ["", f"### {DECIDED_TITLE}, {self.size(self.decided)}", "", *filled(OF_DECIDED), ""]
+        for crate, inside in self.by_crate(self.decided):
+            for module, found in self.files(inside, crate):
+                lines += self.of_module(tier, module, found, False)
+        return lines
+
     def of_tier(self, number, tier):
-        definitions, lines, files, crates = self.counts(self.tiers[number])
+        definitions, lines, files, crates = self.counts(self.counted(number))
         text = f"{count(definitions, 'definition')}, {count(lines, 'line')}, in {count(files, 'file')} of {count(crates, 'crate')}"
         begins = []
         for file, function in tier.contracts:
@@ -262,7 +304,7 @@ class Definitions:
 
     def numbers(self):
         """Of the first tier and of all, how many definitions and lines there are."""
-        return [f"{n:,}" for found in (self.tiers[0], self.all) for n in self.counts(found)[:2]]
+        return [f"{n:,}" for found in (self.counted(0), self.all) for n in self.counts(found)[:2]]
 
 
 def with_lists(text, lines):

@@ -20,3 +20,6 @@ pub mod Denotations
 pub mod Tables
 pub mod Finite
 pub mod Consistency
+pub mod WellTyped
+pub mod NamesOnce
+pub mod Orders

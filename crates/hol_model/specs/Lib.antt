@@ -1,3 +1,5 @@
 pub mod Infinity
 pub mod Leaves
 pub mod Universe
+pub mod WellTyped
+pub mod Names
