@@ -155,7 +155,7 @@ class _Walk:
         if is_told:
             return
         first = " ".join(command.text.split()[:2])
-        told = "this %s stands for several commands, and the program refuses one of them, `%s ..`: %s" % (command.package.word, first, text)
+        told = command.plain.told or "this %s stands for several commands, and the program refuses one of them, `%s ..`: %s" % (command.package.word, first, text)
         if cause is not None and command.word == "oops":
             told = "%s (after the error on line %d)" % (text, self.line(cause))
         start, end = command.range(0, 1)

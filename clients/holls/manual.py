@@ -122,6 +122,8 @@ local declaration | Declares something for this file alone.
 
 PACKAGES = _entries(r"""
 define_type NAME = CONSTRUCTOR type .. | .. | Declares a type with constructors, and makes its theorems of induction, recursion, cases and equality.
+define NAME `clauses` | Defines functions by clauses with patterns, and makes the theorem NAME of them; `by_measure` says what gets smaller at each call.
+inductive NAME `rules` | Defines the least relation that has the rules, and makes NAME_RULES, NAME_INDUCT, NAME_STRONG_INDUCT and NAME_CASES.
 sorry | Ends the open proof: what it was to prove is an axiom from here on, with a warning.
 """)
 """The commands of a file that stand for several of the program's (docs/WRITING.md)."""

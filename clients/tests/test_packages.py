@@ -106,6 +106,74 @@ class Types(unittest.TestCase):
                 self.assertTrue(told(text))
 
 
+def statements(text):
+    """The statements of a file's theorems by their names."""
+    return {one.name: one.text for one in names.written(read(text)) if one.kind == names.THEOREM}
+
+
+class Functions(unittest.TestCase):
+    def test_the_theorem_is_the_clauses(self):
+        found = statements("define LEN `LEN [] = 0 /\\ LEN (CONS h t) = SUC (LEN t)`;;")
+        self.assertEqual(found["LEN"], "LEN (NIL:A list) = _0 /\\ (!(h:A) (t:A list). LEN (CONS h t) = SUC (LEN t))")
+        self.assertEqual(list(found), ["LEN"])
+
+    def test_clauses_that_overlap_are_taken_in_their_order(self):
+        found = statements("define PLUS `PLUS (SOME a) (SOME b) = SOME (a + b) /\\ PLUS x y = NONE`;;")["PLUS"]
+        self.assertIn("!(y:num option). PLUS (NONE:num option) y = (NONE:num option)", found)
+        self.assertIn("PLUS (SOME a) (NONE:num option) = (NONE:num option)", found)
+
+    def test_what_is_wrong_is_told_at_its_word(self):
+        for text, where, words in (
+                ("define FN `FN 0 = 1`;;", "FN 0", "`FN (n + 1)` is missing"),
+                ("define FN `FN n = 1 /\\ FN 0 = 2`;;", "FN 0", "no argument reaches"),
+                ("define FN `FN (SUC n) m = m /\\ FN 0 n = k`;;", "k", "stands on the right"),
+                ("define FN `FN n n = 1`;;", "n", "stands twice"),
+                ("define FN `FN 25 = 1 /\\ FN n = 2`;;", "25", "a numeral over 20"),
+                ("define FN `FN (n * 2) = 1`;;", "(n * 2)", "is no pattern"),
+                ("define SUC `SUC n = n`;;", "SUC", "stands already"),
+                ("define FN `FN 0 = T /\\ FN (SUC n) = 1`;;", "", "doesn't fit"),
+                ("define G `FN n = n`;;", "G", "no clause defines"),
+                ("define FN `FN n = FN (n + 1)`;;", "FN n", "say what gets smaller"),
+                ("define FN by_measure `\\n. T` `FN n = FN (n - 1)`;;", "\\n. T", "measure is of type"),
+                ("define FN by_measure `\\n. n` with NOTHING `FN n = FN (n - 1)`;;", "NOTHING", "no theorem"),
+                ("define FN by_measure `\\n. n` with EQ_REFL `FN n = FN (n - 1)`;;", "EQ_REFL", "isn't that each call is smaller"),
+                ("define FN `FN (SUC n) = FN (FN n) /\\ FN 0 = 0`;;", "", "nested recursion"),
+                ("define F;;", "", "of the form"),
+                ("define FN `FN n`;;", "FN n", "a clause is an equation"),
+                ("define FN `FN n <=> (@x:A. T) = (@x. T)`;;", "", "type variable")):
+            with self.subTest(text):
+                found = told(text)
+                self.assertEqual(len(found), 1, found)
+                self.assertIn(words, found[0][1])
+                self.assertTrue(found[0][0].startswith(where), found)
+
+
+class Relations(unittest.TestCase):
+    def test_the_four_theorems_are_made(self):
+        found = statements("inductive STAR `(!x. STAR R x x) /\\ (!x y z. R x y /\\ STAR R y z ==> STAR R x z)`;;")
+        self.assertEqual(sorted(found), ["STAR_CASES", "STAR_INDUCT", "STAR_RULES", "STAR_STRONG_INDUCT"])
+        self.assertTrue(found["STAR_RULES"].startswith("!(R:A->A->bool). (!(x:A). STAR R x x) /\\ "))
+
+    def test_what_is_wrong_is_told_at_its_word(self):
+        for text, where, words in (
+                ("inductive R `~R x ==> R x`;;", "R", "under ~"),
+                ("inductive R `(R x ==> F) ==> R x`;;", "R", "on the left of ==>"),
+                ("inductive R `!x. (R x <=> T) ==> R x`;;", "R", "beside <=>"),
+                ("inductive R `!x. (?!y. R y) ==> R x`;;", "R", "under ?!"),
+                ("inductive R `!x. K (R x) T ==> R x`;;", "R", "name a theorem"),
+                ("inductive R `(!x:num. R x) /\\ x = x`;;", "x = x", "a rule ends in the relation"),
+                ("inductive SUC `!x. SUC x`;;", "SUC", "stands already"),
+                ("inductive R `!x. K x x ==> S x`;;", "R", "no rule ends in `R`"),
+                ("inductive R [NOTHING] `!x. R x`;;", "NOTHING", "no theorem"),
+                ("inductive R;;", "", "of the form"),
+                ("inductive R `!x. R (R x)`;;", "R", "in an argument of a rule's conclusion")):
+            with self.subTest(text):
+                found = told(text)
+                self.assertEqual(len(found), 1, found)
+                self.assertIn(words, found[0][1])
+                self.assertTrue(found[0][0].startswith(where), found)
+
+
 class Files(unittest.TestCase):
     def test_a_file_without_packages_is_sent_as_it_is(self):
         text = "import arithmetic;;\ng A `x = x`;;\ne REFL_TAC;;\nqed;;\n"
@@ -174,13 +242,23 @@ class OverTheProgram(unittest.TestCase):
     def test_all_is_accepted_and_sorry_fails(self):
         text = "define_type colour = Red | Green | Blue;;\n" \
                "define_type exp = Numb num | Sum (exp list) | Two (exp list) num (exp list) exp;;\n" \
-               "define_type tree = Leaf | Node A tree tree;;\ng COLOURS `!x. x = Red \\/ x = Green \\/ x = Blue`;;\ne ACCEPT_TAC colour_CASES;;\nqed;;\n" \
+               "define_type tree = Leaf | Node A tree tree;;\n" \
+               "define VAL `(VAL (Numb n) = n) /\\ (VAL (Sum l) = VALS l) /\\ (VAL (Two l n m e) = VAL e) /\\ " \
+               "(VALS [] = 0) /\\ (VALS (CONS e l) = VAL e + VALS l)`;;\n" \
+               "define GCD by_measure `\\(m,n). n` `!m n. GCD m n = if n = 0 then m else GCD n (m MOD n)`;;\n" \
+               "define FIB `FIB 0 = 0 /\\ FIB 1 = 1 /\\ FIB (n + 2) = FIB n + FIB (n + 1)`;;\n" \
+               "define MAJ `(MAJ T T c <=> T) /\\ (MAJ T b T <=> T) /\\ (MAJ a T T <=> T) /\\ (MAJ a b c <=> F)`;;\n" \
+               "inductive STAR `(!x. STAR R x x) /\\ (!x y z. R x y /\\ STAR R y z ==> STAR R x z)`;;\n" \
+               "inductive EV `EV 0 /\\ (!n. OD n ==> EV (SUC n)) /\\ (!n. EV n ==> OD (SUC n))`;;\n" \
+               "define BAD by_measure `\\n. n` `BAD n = BAD (n + 1)`;;\ng COLOURS `!x. x = Red \\/ x = Green \\/ x = Blue`;;\ne ACCEPT_TAC colour_CASES;;\nqed;;\n" \
                "g HARD `!x:num. x = x`;;\nsorry;;\ng LATER `!x:num. x = x`;;\ne ACCEPT_TAC HARD;;\nqed;;\n"
         status, said = checked(text, "--axioms", "--alone")
         self.assertEqual(status, 1)
-        self.assertEqual([line.split(": ", 1)[1] for line in said.split("\n") if " error: " in line],
-                         ["error: HARD isn't proved: it is an axiom by this sorry"])
+        errors = [line.split(": ", 1)[1] for line in said.split("\n") if " error: " in line]
+        self.assertEqual(len(errors), 2, said)
+        self.assertIn("prove `!n. lt (add n _1) n` and name it", errors[0])
+        self.assertEqual(errors[1], "error: HARD isn't proved: it is an axiom by this sorry")
         rests = {line.split(": ", 1)[1].split(" ")[0]: line for line in said.split("\n") if " rests on " in line}
         self.assertIn("axiom:HARD", rests["LATER"].split("rests on")[1])
-        for name in ("COLOURS", "exp_RECURSION", "exp_INJECTIVE", "tree_DISTINCT"):
+        for name in ("COLOURS", "exp_RECURSION", "exp_INJECTIVE", "tree_DISTINCT", "VAL", "GCD", "FIB", "MAJ", "STAR_CASES", "EV_STRONG_INDUCT"):
             self.assertNotIn("axiom", rests[name])

@@ -5,7 +5,7 @@ from __future__ import annotations
 from dataclasses import dataclass
 from typing import Any, Callable, Dict, List, Mapping, Optional, Tuple
 
-from holls.packages import datatypes
+from holls.packages import datatypes, functions, relations
 from holls.packages.output import HIDDEN, PUBLIC, Output, Plain
 from holls.packages.parsing import Place
 from holls.packages.scope import THEORY, Asking, Standing, agrees
@@ -45,9 +45,9 @@ def _define_type(text: str, place: Place, out: Output) -> None:
     out.asking.own.data[data.name] = data
 
 
-PACKAGES: Dict[str, Callable[[str, Place, Output], None]] = {"define_type": _define_type}
+PACKAGES: Dict[str, Callable[[str, Place, Output], None]] = {"define_type": _define_type, "define": functions.expand, "inductive": relations.expand}
 """The packages by their words, each with what expands it."""
-WORDS: Dict[str, str] = {"define_type": datatypes.FORM, "sorry": "sorry"}
+WORDS: Dict[str, str] = {"define_type": datatypes.FORM, "define": functions.FORM, "inductive": relations.FORM, "sorry": "sorry"}
 """The words that begin a package, and how each is written."""
 
 
@@ -79,6 +79,8 @@ def _expanded(text: str, word: str, place: Place, asking: Asking) -> Expansion:
         return Expansion((), Standing(), error)
     except RecursionError:
         return Expansion((), Standing(), Misread(0, len(word), "this %s is nested too deeply: split it" % word))
+    except Exception as error:  # noqa: BLE001: told at this package, and the rest of the file goes on
+        return Expansion((), Standing(), Misread(0, len(word), "an error in holls: %s: %s" % (type(error).__name__, error)))
     return Expansion(tuple(out.plain), asking.own)
 
 

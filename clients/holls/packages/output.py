@@ -24,11 +24,12 @@ Steps = List[Union[str, Tuple[str, List["Steps"]]]]  # type: ignore[misc]
 
 
 class Plain(NamedTuple):
-    """A plain command of a package: its text, its role, and the range of the package's text that it comes from."""
+    """A plain command of a package: its text, its role, and the range of the package's text that it comes from; what to say where it is refused."""
 
     text: str
     role: str
     span: Optional[Span]
+    told: Optional[str] = None
 
 
 def tokens(text: str) -> int:
@@ -133,7 +134,7 @@ class Output:
 
     def check(self, word: str, end: int) -> None:
         """Raises `Misread` at the package's word where a command would be too long, or make a theorem whose name is given away."""
-        for text, _, span in self.plain:
+        for text, _, span, _ in self.plain:
             where = span or (0, end)
             if tokens(text) > MOST_TOKENS:
                 raise Misread(*where, "this %s takes a command of %d tokens (`%s ..`), and %d are the limit: fewer constructors, clauses or arguments" % (
