@@ -5,7 +5,7 @@ import subprocess
 import tempfile
 import unittest
 
-from holls.exchange import citing, importing, layout, likes, neutral, recording
+from holls.exchange import citing, importing, kernel, layout, likes, neutral, recording
 from holls.exchange.neutral import Untranslatable
 from holls.files import File
 from holls.checking import Unit
@@ -95,6 +95,47 @@ def swapped():
     made.name("CITES", citing_false)
     unknown = made.theorem(("c", "elsewhere", typed.BOOL))
     made.name("UNKNOWN", unknown)
+    return made
+
+
+def derived():
+    """A record of theorems without tactics of ours: derivations of the kernel's rules, one of them around a goal that a tactic left."""
+    made = Writer()
+
+    def rule(text, name, *arguments, under=()):
+        return made.theorem(read(text), name, arguments, under)
+
+    def read(text):
+        return term(text.replace("P", "(P:A->bool)").replace("Q", "(Q:A->bool)"))
+
+    both = read("(!x. P x ==> Q x) /\\ P a")
+    a, r, s = ("v", "a", "A"), ("v", "r", "A"), ("v", "s", typed.BOOL)
+    a, r, s, given = (made.term(one) for one in (a, r, s, both))
+    assumed = rule("(!x. P x ==> Q x) /\\ P a", "ASSUME", "t%d" % given, under=[both])
+    general = rule("!x. P x ==> Q x", "CONJUNCT1", "h%d" % assumed, under=[both])
+    implied = rule("P a ==> Q a", "SPEC", "t%d" % a, "h%d" % general, under=[both])
+    premise = rule("P a", "CONJUNCT2", "h%d" % assumed, under=[both])
+    shown = rule("Q a", "MP", "h%d" % implied, "h%d" % premise, under=[both])
+    closed = rule("(!x. P x ==> Q x) /\\ P a ==> Q a", "DISCH", "t%d" % given, "h%d" % shown)
+    at = rule("(!x. P x ==> Q x) /\\ P r ==> Q r", "INST", "t%d" % r, "t%d" % a, "h%d" % closed)
+    whole = rule("!r. (!x. P x ==> Q x) /\\ P r ==> Q r", "GEN", "t%d" % r, "h%d" % at)
+    named = rule("!r. (!x. P x ==> Q x) /\\ P r ==> Q r", "-")
+    made.name("WHOLE", named)
+    made.lines.append("J 0 %d %d" % (named, whole))
+    # A tactic that nothing here is like left Q a of .. ==> Q a \\/ s, and another one nothing.
+    first, second = made.goal(read("(!x. P x ==> Q x) /\\ P a ==> Q a \\/ s")), made.goal(read("Q a"), both)
+    hole = rule("Q a", "GOAL", under=[both])
+    wider = rule("Q a \\/ s", "DISJ1", "t%d" % s, "h%d" % hole, under=[both])
+    around = rule("(!x. P x ==> Q x) /\\ P a ==> Q a \\/ s", "DISCH", "t%d" % given, "h%d" % wider)
+    odd, other = made.node("ODD_TAC", first, [second]), made.node("OTHER_TAC", second)
+    made.lines += ["J %d %d %d" % (odd, around, hole), "J %d %d" % (other, shown)]
+    theorem = rule("(!x. P x ==> Q x) /\\ P a ==> Q a \\/ s", "prove")
+    made.proof(theorem, first, [odd, other])
+    made.name("AROUND", theorem)
+    strange = rule("!p. p \\/ s", "STRANGE")
+    false = rule("!p. p \\/ s", "-")
+    made.name("STRANGE", false)
+    made.lines.append("J 0 %d %d" % (false, strange))
     return made
 
 
@@ -231,6 +272,25 @@ class Shapes(unittest.TestCase):
         self.assertEqual(list(recording.names("let A = 1;;\n(* let B = 2;; *)\nlet [C;D] = f;;\nlet rec E x = x;;\n  let F = 1;;\n")), ["A", "C", "D"])
 
 
+class Recording(unittest.TestCase):
+    def test_a_kernel_keeps_what_made_each_theorem(self):
+        text = ("module type K = sig\n      type thm\nend\n  type thm = Sequent of (term list * term)\n"
+                "  let dest_thm (Sequent(asl,c)) = (asl,c)\n\n  let REFL tm =\n    Sequent([],eq tm (f tm))\n\n"
+                "  let TRANS (Sequent(asl1,c1)) (Sequent(asl2,c2)) =\n    Sequent(term_union asl1 asl2,Comb(c1,c2))\n")
+        found = kernel.keeping(text)
+        self.assertIn("val derivation : thm ->", found)
+        self.assertIn("((Sequent(asl1,c1,_)) as of_c1)", found)
+        self.assertIn("Sequent([],eq tm (f tm),made \"REFL\" [] [tm] [])", found)
+        self.assertIn("Sequent(term_union asl1 asl2,Comb(c1,c2),made \"TRANS\" [of_c1; of_c2] [] [])", found)
+
+    def test_names_are_told_behind_what_binds_them(self):
+        text = "(* let NOT = 1;; *)\nlet ONE = prove\n (a,b);;\n\nlet TWO = c and THREE = d;;\n"
+        self.assertEqual(recording.telling(text, "f.ml", frozenset(("TWO",))),
+                         "(* let NOT = 1;; *)\nlet ONE = prove\n (a,b);;\nrec_name \"ONE\" ONE \"f.ml\";;\n\nrec_is_wanted := true;;\n"
+                         "let TWO = c and THREE = d;;\nrec_name \"TWO\" TWO \"f.ml\";;\nrec_is_wanted := false;;\n")
+        self.assertIn("rec_is_wanted := true;;", recording.telling(text, "f.ml", recording.Others(frozenset(("TWO",)))).split("let ONE")[0])
+
+
 @unittest.skipUnless(BUILT.exists(), "hol_serve isn't built")
 class OverTheProgram(unittest.TestCase):
     def brought(self, is_axioms=False):
@@ -243,6 +303,20 @@ class OverTheProgram(unittest.TestCase):
         self.assertEqual(set(outcome.missing), {"FALSE", "CITES", "UNKNOWN"})
         self.assertIn("FALSE is missing, which it cites", outcome.missing["CITES"])
         self.assertIn("elsewhere", outcome.missing["UNKNOWN"])
+
+    def test_recorded_derivations_come_where_nothing_else_does(self):
+        record = neutral.read(derived().lines)
+        found = importing.Importer(record, [unit(BASE)], [str(BUILT)], 0.0, False).bring(frozenset(("test.ml",)), frozenset())
+        self.assertEqual(found.brought, [])  # No time at all.
+        importer = importing.Importer(record, [unit(BASE)], [str(BUILT)], 20.0, False)
+        importer.replaying = lambda *given: None
+        found = importer.bring(frozenset(("test.ml",)), frozenset())
+        self.assertEqual([(one.name, one.is_derived) for one in found.brought], [("WHOLE", True), ("AROUND", True)])
+        self.assertEqual(set(found.missing), {"STRANGE"})
+        self.assertIn("DISJ1_TAC", " ".join(found.brought[1].commands))
+        importer = importing.Importer(record, [unit(BASE)], [str(BUILT)], 20.0, False, 0)
+        importer.replaying = lambda *given: None
+        self.assertEqual(importer.bring(frozenset(("test.ml",)), frozenset()).brought, [])
 
     def test_axioms_only_where_they_are_asked_for(self):
         outcome = self.brought(True)

@@ -16,6 +16,7 @@ from typing import Dict, Iterator, List, NamedTuple, Optional, Sequence, Set, Tu
 from holls import check, checking, protocol, server
 from holls.checking import Unit
 from holls.exchange import layout, neutral, recording
+from holls.exchange.deriving import MOST_CHARACTERS, Deriving
 from holls.exchange.hol_light import INSTALLED, NoHolLight
 from holls.exchange.neutral import Record, Translator, Untranslatable
 from holls.exchange.polishing import Polisher
@@ -36,12 +37,14 @@ _LETTERS = "ABCDEFGHIJKLMNOPQRSUVWXYZ"
 
 
 class Brought(NamedTuple):
-    """A theorem that came over: its name, HOL Light's file, and the commands of its proof with how many goals are open behind each."""
+    """A theorem that came over: its name, HOL Light's file, the commands of its proof with how many goals are open behind each, and whether a
+    part of it is a recorded derivation."""
 
     name: str
     file: str
     commands: Tuple[str, ...]
     open_goals: Tuple[int, ...]
+    is_derived: bool = False
 
 
 @dataclass
@@ -56,12 +59,15 @@ def add_words(parser: argparse.ArgumentParser) -> None:
     """The words of the command line."""
     parser.add_argument("record", metavar="RECORD", help="the neutral file of a recorded run; with --record it is made")
     parser.add_argument("--record", nargs="*", metavar="FILE.ml", dest="further",
-                        help="run HOL Light and record it: its core, and these files; it takes some minutes")
+                        help="run HOL Light and record it: its core, and these files, with derivations of what doesn't stand in the theories of "
+                        "--over; it takes some minutes")
     parser.add_argument("--over", nargs="+", metavar="FILE", default=[], help="the theories that stand: files or folders, all of them are imported")
     parser.add_argument("--from", nargs="+", metavar="FILE.ml", default=[], dest="sources", help="bring the theorems of these files of HOL Light")
     parser.add_argument("--names", nargs="+", metavar="NAME", default=[], help="bring these theorems alone")
     parser.add_argument("-o", "--output", metavar="DIR", default=".", help="the folder for the files that are written (this one)")
     parser.add_argument("--seconds", type=float, default=SECONDS, help="how long a proof may be searched (%g)" % SECONDS)
+    parser.add_argument("--derivations", type=int, default=MOST_CHARACTERS, metavar="N",
+                        help="what is neither steps nor found comes by recorded derivations, of at most N characters a tactic (%d; 0: none)" % MOST_CHARACTERS)
     parser.add_argument("--axioms", action="store_true", help="state as an axiom what can't be had")
     parser.add_argument("--server", metavar="PROGRAM", help="the program hol_serve")
 
@@ -69,12 +75,12 @@ def add_words(parser: argparse.ArgumentParser) -> None:
 def main(given: argparse.Namespace) -> int:
     """Records, or brings theorems: 0 where all came over, 1 where some are missing, 2 where nothing can be recorded or brought."""
     try:
+        units = checking.units(check.ordered(given.over)) if given.over else []
         if given.further is not None:
-            return _recorded(Path(given.record), given.further)
+            return _recorded(Path(given.record), given.further, units)
         with open(given.record, encoding="latin-1") as lines:
             record = neutral.read(lines)
-        units = checking.units(check.ordered(given.over)) if given.over else []
-        importer = Importer(record, units, server.find(given.server), given.seconds, given.axioms)
+        importer = Importer(record, units, server.find(given.server), given.seconds, given.axioms, given.derivations)
         outcome = importer.bring(frozenset(given.sources), frozenset(given.names))
     except (OSError, ValueError, NoHolLight, check.CannotCheck, server.NoServer, Silent) as error:
         print("holls: %s" % error, file=sys.stderr)
@@ -83,15 +89,20 @@ def main(given: argparse.Namespace) -> int:
         print("%s is written" % path)
     for name, why in outcome.missing.items():
         print("missing: %s: %s" % (name, why))
-    print("%d theorems came over, %d are missing" % (len(outcome.brought), len(outcome.missing)))
+    derived = sum(one.is_derived for one in outcome.brought)
+    print("%d theorems came over%s, %d are missing" % (len(outcome.brought), ", %d of them by recorded derivations" % derived if derived else "",
+                                                        len(outcome.missing)))
     return MISSING if outcome.missing else 0
 
 
-def _recorded(target: Path, further: Sequence[str]) -> int:
-    printed = recording.record(target.resolve(), further)
-    failed = re.findall(r"^Error in included file (.*)$", printed, re.M)
-    for path in failed:
-        print("holls: HOL Light refuses %s when it is recorded" % Path(path).name, file=sys.stderr)
+def _recorded(target: Path, further: Sequence[str], units: Sequence[Unit]) -> int:
+    scope = Scope()
+    for unit in units:
+        scope.add_file(unit.file)
+    printed = recording.record(target.resolve(), further, recording.Others(frozenset(scope.theorems)) if units else ())
+    failed = re.findall(r"^Exception: (.*)$", printed, re.M)
+    for told in failed:
+        print("holls: HOL Light is recorded, but for a proof that it refuses then: %s" % told, file=sys.stderr)
     print("%s is written" % target)
     return MISSING if failed else 0
 
@@ -99,8 +110,10 @@ def _recorded(target: Path, further: Sequence[str]) -> int:
 class Importer:
     """Brings theorems of a record, one after the other, over theories that stand in a server of its own."""
 
-    def __init__(self, record: Record, units: Sequence[Unit], program: Sequence[str], seconds: float, is_axioms: bool) -> None:
+    def __init__(self, record: Record, units: Sequence[Unit], program: Sequence[str], seconds: float, is_axioms: bool,
+                 derivations: int = MOST_CHARACTERS) -> None:
         self.record, self.units, self.program, self.seconds, self.is_axioms = record, units, program, seconds, is_axioms
+        self.derivations = derivations
         self.translator = Translator(record)
         self.scope = Scope()
         for unit in units:
@@ -120,6 +133,8 @@ class Importer:
                 self.asker.add(unit.file.theory.name, [entry.sent for entry in unit.file.theory.entries])
             self._copy()
             self.replay = Replay(self.record, self.translator, self.scope, self.asker)
+            self.deriving = Deriving(self.record, self.translator, self.scope, self.asker)
+            self.deriving.most = self.derivations
             self.polisher = Polisher(self.asker, self.seconds / 4)
             for name, (number, file) in self.record.names.items():
                 if (file in files or name in names) and (not names or name in names) and name not in self.scope.theorems:
@@ -136,7 +151,12 @@ class Importer:
             outcome.missing[name] = str(error)
             return
         self._room()
-        commands = self.replay.prove(name, number, cited(name, self._source(file)), self.seconds)
+        hints = cited(name, self._source(file))
+        commands = self.replaying(name, number, hints)
+        is_derived = False
+        if commands is None and self.derivations > 0:
+            commands = self.deriving.prove(name, number, hints, self.seconds)
+            is_derived = commands is not None and self.deriving.is_derived(commands)
         if commands is None:
             if self.is_axioms:
                 commands = ["new_axiom %s %s" % (name, self.replay.quoter.quote(statement))]
@@ -146,10 +166,14 @@ class Importer:
         else:
             commands = self.polisher.shorter(commands) or commands
         goals = self.polisher.depths(commands) or [1] * len(commands)
-        outcome.brought.append(Brought(name, file, tuple(commands), tuple(goals)))
+        outcome.brought.append(Brought(name, file, tuple(commands), tuple(goals), is_derived))
         self.asker.extend(commands)
         self.standing += commands
         self.scope.theorems[name] = statement
+
+    def replaying(self, name: str, number: int, hints: Sequence[str]) -> Optional[List[str]]:
+        """A proof by steps that are like the recorded ones, and by searches."""
+        return self.replay.prove(name, number, hints, self.seconds)
 
     def _statement(self, number: int) -> Term:
         theorem = self.record.theorems[number]
@@ -263,11 +287,20 @@ def write(brought: Sequence[Brought], imports: Sequence[str], folder: Path) -> I
     for name, ones in _split(list(renamed(brought))):
         path = folder / (name + ".hol")
         head = "(* Theorems of HOL Light's %s, brought over by `holls import`. *)\n\n" % ", ".join(dict.fromkeys(one.file for one in ones))
-        body = "\n\n".join(layout.proof(one.commands, one.open_goals) if one.commands[0].startswith("g ") else layout.lines(one.commands[0])
-                           for one in ones)
+        body = "\n\n".join(_text(one) for one in ones)
         path.write_text(head + "".join("import %s;;\n" % other for other in before) + "\n" + body + "\n", encoding="utf-8")
         before.append(name)
         yield path
+
+
+DERIVED = "(* By a recorded derivation. *)"
+"""Stands above a proof that has one."""
+
+
+def _text(one: Brought) -> str:
+    """A theorem's lines, marked where a part of its proof is a recorded derivation."""
+    text = layout.proof(one.commands, one.open_goals) if one.commands[0].startswith("g ") else layout.lines(one.commands[0])
+    return "%s\n%s" % (DERIVED, text) if one.is_derived else text
 
 
 def _split(brought: Sequence[Brought]) -> Iterator[Tuple[str, List[Brought]]]:

@@ -72,12 +72,23 @@ class Record:
     proofs: Dict[int, Proof] = field(default_factory=dict)
     names: Dict[str, Tuple[int, str]] = field(default_factory=dict)
     """Of a name its theorem and its file, in the order of the files."""
+    derived: Dict[int, Tuple[int, Tuple[int, ...]]] = field(default_factory=dict)
+    """Of a tactic its theorem's derivation, and the theorems of the goals that it left, to which this comes."""
+    whole: Dict[int, int] = field(default_factory=dict)
+    """Of a named theorem its derivation."""
 
     def take(self, line: str) -> None:
         """Takes a line. Raises ValueError for one that is none."""
         kind, *words = line.split()
         if kind == "N":
-            self.names.setdefault(words[0], (int(words[1]), words[2]))
+            if words[0] not in self.names or self.names[words[0]][1] == words[2]:
+                self.names[words[0]] = int(words[1]), words[2]
+        elif kind == "J":
+            node, first, *rest = map(int, words)
+            if node:
+                self.derived[node] = first, tuple(rest)
+            else:
+                self.whole[first] = rest[0]
         elif kind == "P":
             self.proofs[int(words[0])] = Proof(int(words[1]), tuple(map(int, words[2:])))
         elif kind in ("Y", "T"):

@@ -9,6 +9,9 @@
      G n concl hypotheses a goal
      K n TACTIC goal k goals arguments
                           a tactic that was run: k counts the goals that it left
+     J node theorem theorems
+                          what the kernel made: a tactic's theorem, and those of the goals that it left, of which it was made by the rules that
+                          the H lines between them tell (where this was asked for); of node 0 a named theorem, and its derivation
      P theorem goal nodes a proof: its theorem, its first goal and its tactics in the order in which they ended
      N NAME theorem FILE  a name of the source, which is a theorem's *)
 
@@ -96,3 +99,48 @@ let rec_rule_list name f th =
   List.mapi (fun i t -> rec_note (name ^ string_of_int i) [Rec_thm th] t) ths;;
 let rec_rule_def1 name f th tm = rec_note name [Rec_term tm] (rec_inside (f th) tm);;
 let rec_rule_string name f s th = rec_note name [Rec_thm th] (rec_inside (f s) th);;
+
+(* Derivations, as the kernel keeps them: lines H of its rules. What was named is a leaf, and so is what stands for a goal that was left. *)
+let rec_is_wanted = ref false;;
+let rec_most = 6000;;
+let rec_leaves : (int,int) Hashtbl.t = Hashtbl.create 5000;;
+let rec_id th = let number,_,_,_,_ = derivation th in number;;
+let rec_premises th = let _,_,premises,_,_ = derivation th in premises;;
+(* Whether a derivation has no more steps than are written. *)
+let rec_fits leaves th =
+  let seen = Hashtbl.create 500 in
+  List.iter (fun leaf -> Hashtbl.replace seen (rec_id leaf) ()) leaves;
+  let rec go waiting = match waiting with
+      [] -> true
+    | th::rest ->
+        let id = rec_id th in
+        if Hashtbl.mem seen id || Hashtbl.mem rec_leaves id then go rest else begin
+          Hashtbl.replace seen id ();
+          Hashtbl.length seen <= rec_most && go (List.rev_append (rec_premises th) rest) end in
+  go [th];;
+let rec_line rule th args =
+  let c = rec_term (concl th) in
+  let hs = map (fun h -> string_of_int (rec_term h)) (hyp th) in
+  let n = rec_new () in
+  rec_say (["H"; string_of_int n; rule; string_of_int c; string_of_int (length hs)] @ hs @ args); n;;
+let rec_settle th n = Hashtbl.replace rec_leaves (rec_id th) n; cut th;;
+let rec_hole th =
+  let id = rec_id th in
+  try Hashtbl.find rec_leaves id with Not_found ->
+  let n = rec_line "GOAL" th [] in
+  Hashtbl.replace rec_leaves id n; n;;
+let rec_forget th =
+  let _,rule,_,_,_ = derivation th in
+  if rule <> "-" then Hashtbl.remove rec_leaves (rec_id th);;
+let rec_derivation th =
+  let done_ = Hashtbl.create 500 in
+  let rec go th =
+    let id,rule,premises,terms,types = derivation th in
+    try Hashtbl.find rec_leaves id with Not_found ->
+    try Hashtbl.find done_ id with Not_found ->
+    let numbers = map (fun p -> "h" ^ string_of_int (go p)) premises in
+    let ts = map (fun t -> "t" ^ string_of_int (rec_term t)) terms in
+    let ys = List.concat (map (fun (a,b) -> ["y" ^ string_of_int (rec_type a); "y" ^ string_of_int (rec_type b)]) types) in
+    let n = rec_line rule th (ts @ ys @ numbers) in
+    Hashtbl.replace done_ id n; n in
+  go th;;

@@ -1,22 +1,40 @@
 (* The part of the recorder that is loaded behind tactics.ml, where goals and tactics are known. *)
 
-type rec_node = { rec_goal : goal; rec_tactic : string; rec_args : rec_arg list; rec_left : goal list };;
+(* A goal that is left, with the theorem that comes to stand for it. *)
+type rec_left = { rec_open : goal; mutable rec_shown : thm option };;
+type rec_node = { rec_goal : goal; rec_tactic : string; rec_args : rec_arg list; rec_left : rec_left list; rec_made : rec_left };;
 let rec_log : rec_node list ref = ref [];;
-let rec_put name args g left = rec_log := { rec_goal = g; rec_tactic = name; rec_args = args; rec_left = left } :: !rec_log;;
+let rec_place g = { rec_open = g; rec_shown = None };;
+let rec_put name args g left =
+  let made = rec_place g in
+  rec_log := { rec_goal = g; rec_tactic = name; rec_args = args; rec_left = left; rec_made = made } :: !rec_log; made;;
+(* A justification whose theorems are kept at the places that they stand for. *)
+let rec_kept made left just = fun i ths ->
+  (if length ths = length left then List.iter2 (fun place th -> place.rec_shown <- Some th) left ths);
+  let th = rec_inside (just i) ths in
+  made.rec_shown <- Some th; th;;
 
 let rec_tac name args (tac : tactic) : tactic = fun g ->
   if !rec_depth > 0 then tac g else begin
-    let (_,left,_) as result = rec_inside tac g in
-    rec_put name args g left; result end;;
+    let (variables,goals,just) = rec_inside tac g in
+    let left = map rec_place goals in
+    let made = rec_put name args g left in
+    variables,goals,rec_kept made left just end;;
 
 (* A tactic that hands a theorem to another one: what this is run on is taken for a goal that the first leaves, in a place of its own. The
    tactic is made before there is a goal, as it may be refused for its theorem alone. *)
-let rec_watch handed inner th (asl,w) = let own = (asl,w) in handed := own :: !handed; inner th own;;
+let rec_watch handed inner th (asl,w) =
+  let own = rec_place (asl,w) in
+  handed := own :: !handed;
+  let (variables,goals,just) = inner th own.rec_open in
+  variables,goals,rec_kept own [] just;;
 let rec_watched name args handed (tac : tactic) left : tactic = fun g ->
   if !rec_depth > 0 then tac g else begin
     handed := [];
-    let (_,goals,_) as result = tac g in
-    rec_put name args g (left !handed goals); result end;;
+    let (variables,goals,just) = tac g in
+    let places = map rec_place goals in
+    let made = rec_put name args g (left !handed places) in
+    variables,goals,rec_kept made places just end;;
 let rec_newest handed _ = match handed with own :: _ -> [own] | [] -> [];;
 let rec_then name args (tac : thm_tactic -> tactic) (inner : thm_tactic) : tactic =
   let handed = ref [] in rec_watched name args handed (tac (rec_watch handed inner)) rec_newest;;
@@ -33,6 +51,18 @@ let rec_list name (tac : (thm list -> tactic) -> tactic) (inner : thm list -> ta
 
 let rec_thms = map (fun th -> Rec_thm th);;
 
+(* Of a tactic that was run: the theorem that came of it, and those of the goals that it left, by how the kernel made the one of the others. *)
+let rec_derived n node =
+  match node.rec_made.rec_shown with
+    None -> ()
+  | Some th ->
+      let shown = List.concat (map (fun place -> match place.rec_shown with Some th -> [th] | None -> []) node.rec_left) in
+      if length shown = length node.rec_left && rec_fits shown th then begin
+        let holes = map (fun th -> string_of_int (rec_hole th)) shown in
+        let made = rec_derivation th in
+        rec_say (["J"; string_of_int n; string_of_int made] @ holes);
+        List.iter rec_forget shown end;;
+
 (* Writes a proof: its goals by the places where they are. *)
 let rec_proof th (first : goal) nodes =
   let goals = ref ([] : (goal * int) list) in
@@ -45,10 +75,12 @@ let rec_proof th (first : goal) nodes =
     rec_say (["G"; string_of_int n; string_of_int c] @ hs); n in
   let node one =
     let g = goal one.rec_goal in
-    let left = map (fun g -> string_of_int (goal g)) one.rec_left in
+    let left = map (fun place -> string_of_int (goal place.rec_open)) one.rec_left in
     let args = map rec_argument one.rec_args in
     let n = rec_new () in
-    rec_say (["K"; string_of_int n; one.rec_tactic; string_of_int g; string_of_int (length left)] @ left @ args); string_of_int n in
+    rec_say (["K"; string_of_int n; one.rec_tactic; string_of_int g; string_of_int (length left)] @ left @ args);
+    (if !rec_is_wanted then rec_derived n one);
+    string_of_int n in
   let numbers = map node (rev nodes) in
   let theorem = rec_theorem th in
   let begun = goal first in
@@ -66,4 +98,8 @@ let prove (tm,tac) =
     ignore (rec_note "prove" [] th);
     rec_proof th !first nodes; th end;;
 
-let rec_name name th file = rec_say ["N"; name; string_of_int (rec_theorem th); file]; flush rec_channel;;
+let rec_name name th file =
+  let n = rec_theorem th in
+  rec_say ["N"; name; string_of_int n; file];
+  (if !rec_is_wanted && rec_fits [] th then rec_say ["J"; "0"; string_of_int n; string_of_int (rec_derivation th)]);
+  rec_settle th n; flush rec_channel;;

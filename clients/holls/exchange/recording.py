@@ -11,9 +11,11 @@ import re
 import subprocess
 import tempfile
 from pathlib import Path
-from typing import Dict, Iterator, List, Sequence, Tuple
+from typing import Container, Dict, FrozenSet, Iterator, List, Sequence, Tuple
 
+from holls.exchange import kernel
 from holls.exchange.hol_light import ADVICE, INSTALLED, NoHolLight
+from holls.exchange.kernel import wrapped
 
 HERE = Path(__file__).resolve().parent
 
@@ -124,17 +126,6 @@ def rule_lines() -> str:
     return "\n".join(lines) + "\n"
 
 
-def wrapped(text: str, additions: Sequence[Tuple[str, str]]) -> str:
-    """A file's text with a line behind the definition of each name, where it has one."""
-    for name, line in additions:
-        found = re.search(r"^let\s+(?:rec\s+)?\(*%s\b" % re.escape(name), text, re.M)
-        if found and line:
-            end = re.compile(r";;[ \t]*\n").search(text, found.end())
-            if end:
-                text = text[:end.end()] + line + "\n" + text[end.end():]
-    return text
-
-
 def prepare(room: Path, installed: Path = INSTALLED) -> None:
     """Makes a copy of HOL Light in a folder: links to what is installed, and the changed files."""
     for path in installed.iterdir():
@@ -145,6 +136,8 @@ def prepare(room: Path, installed: Path = INSTALLED) -> None:
         _write(room / name, own + "\n" + added + (tactic_lines() if name == "tactics.ml" else ""))
     for name, additions in _LATER.items():
         _write(room / name, wrapped((installed / name).read_text(encoding="latin-1"), additions))
+    for name in kernel.FILES:
+        _write(room / name, kernel.changed(name, (installed / name).read_text(encoding="latin-1")))
 
 
 def _write(path: Path, text: str) -> None:
@@ -152,48 +145,94 @@ def _write(path: Path, text: str) -> None:
     path.write_text(text, encoding="latin-1")
 
 
+_BINDING = re.compile(r"^(let|and)\s+([\[\(]?\s*[A-Za-z_][\w']*(?:\s*[,;]\s*[A-Za-z_][\w']*)*\s*[\]\)]?)\s*=", re.M)
+_RESERVED = frozenset("let rec and in fun function match with if then else type exception open module".split())
+_UNRECORDED = frozenset("realax.ml calc_int.ml realarith.ml real.ml calc_rat.ml".split())
+"""Files whose proofs aren't written: of reals, to which nothing here comes."""
+_QUIET = "Toploop.print_out_phrase := (fun _ _ -> ());;\n"
+
+
+class Others(Container[str]):
+    """All names but some, as those whose derivations are wanted."""
+
+    def __init__(self, names_of: FrozenSet[str]) -> None:
+        self.names = names_of
+
+    def __contains__(self, name: object) -> bool:
+        return name not in self.names
+
+
+def bound(words: str) -> List[str]:
+    """The names that a binding's left side has."""
+    return [name for name in re.findall(r"[A-Za-z_][\w']*", words) if name not in _RESERVED]
+
+
 def names(text: str) -> Iterator[str]:
     """The names that a file binds at its margin; some are no theorems."""
-    text = re.sub(r"\(\*.*?\*\)", " ", text, flags=re.S)
-    reserved = frozenset("let rec and in fun function match with if then else type exception open module".split())
-    for found in re.finditer(r"^(?:let|and)\s+([\[\(]?\s*[A-Za-z_][\w']*(?:\s*[,;]\s*[A-Za-z_][\w']*)*\s*[\]\)]?)\s*=", text, re.M):
-        yield from (name for name in re.findall(r"[A-Za-z_][\w']*", found[1]) if name not in reserved)
+    for found in _BINDING.finditer(re.sub(r"\(\*.*?\*\)", " ", text, flags=re.S)):
+        yield from bound(found[2])
 
 
-def script(installed: Path, further: Sequence[str]) -> Tuple[str, str]:
-    """What is loaded before the first file, and the lines behind it: each file, and the names that it has made."""
+def script(room: Path, further: Sequence[str], wanted: Container[str]) -> Tuple[str, str]:
+    """What is loaded before the first file, and the lines behind it: each file, where each name is told behind what binds it."""
     first: List[str] = []
     rest: List[str] = []
-    for line in (installed / "hol.ml").read_text(encoding="utf-8").splitlines(keepends=True):
-        (rest if rest else first).append(line)
+    is_recording = False
+    for line in (room / "hol.ml").read_text(encoding="utf-8").splitlines(keepends=True):
         loaded = re.match(r'loads "(.*)";;', line)
-        if loaded:
-            rest = rest or [first.pop()]
-            rest += named(installed, loaded[1], first, rest)
+        if not rest and not loaded:
+            first.append(line)
+            continue
+        rest.append(_file(room, loaded[1], wanted) if loaded and is_recording else line)
+        is_recording = is_recording or bool(loaded) and loaded[1] == "tactics.ml"
         if loaded and loaded[1] == "define.ml":
             break
-    for name in further:
-        rest.append('loadt "%s";;\n' % name)
-        rest += named(installed, name, first, rest)
-    return "".join(first), "".join(rest)
+    return "".join(first), _QUIET + "".join(rest) + "".join(_file(room, name, wanted) for name in further)
 
 
-def named(installed: Path, file: str, _first: Sequence[str], rest: Sequence[str]) -> List[str]:
-    """The lines that tell a file's names, once the recorder is there."""
-    if not any("tactics.ml" in line for line in rest):
-        return []
-    text = (installed / file).read_text(encoding="latin-1")
-    return ['rec_name "%s" %s "%s";;\n' % (name, name, file) for name in dict.fromkeys(names(text)) if not name.startswith("rec_")]
+def _file(room: Path, name: str, wanted: Container[str]) -> str:
+    """A file's text, with its names told."""
+    text = (room / name).read_text(encoding="latin-1")
+    told = "".join('rec_name "%s" %s "%s";;\n' % (one, one, name) for one in dict.fromkeys(names(text)) if not one.startswith("rec_"))
+    if name in _UNRECORDED:
+        return 'incr rec_depth;;\nloads "%s";;\ndecr rec_depth;;\n%s' % (name, told)
+    loaded = '\nloaded_files := ("%s",Digest.file "%s") :: !loaded_files;;\n' % (Path(name).name, room / name)
+    return telling(text, name, wanted) + loaded
 
 
-def record(target: Path, further: Sequence[str] = (), installed: Path = INSTALLED) -> str:
-    """Runs HOL Light up to define.ml and further files, recorded to a file; answers what it printed. It takes some minutes."""
+def telling(text: str, file: str, wanted: Container[str]) -> str:
+    """A file's text with a line behind each binding at the margin that tells its names, and marks around those whose derivations are wanted."""
+    added: Dict[int, Dict[str, None]] = {}
+    begun: Dict[int, None] = {}
+    comments = [found.span() for found in re.finditer(r"\(\*.*?\*\)", text, re.S)]
+    for found in _BINDING.finditer(text):
+        end = re.compile(r";;[^\n]*\n").search(text, found.end())
+        if end is None or any(start <= found.start() < stop for start, stop in comments):
+            continue
+        own = [name for name in bound(found[2]) if not name.startswith("rec_")]
+        added.setdefault(end.end(), {}).update(dict.fromkeys(own))
+        if found[1] == "let" and any(name in wanted for name in own):
+            begun[found.start()] = None
+            added[end.end()][""] = None
+    made, at = "", 0
+    for place in sorted({*added, *begun}):
+        made += text[at:place]
+        at = place
+        made += "".join('rec_name "%s" %s "%s";;\n' % (name, name, file) if name else "" for name in added.get(place, ()))
+        made += "rec_is_wanted := false;;\n" if "" in added.get(place, ()) else ""
+        made += "rec_is_wanted := true;;\n" if place in begun else ""
+    return made + text[at:]
+
+
+def record(target: Path, further: Sequence[str] = (), wanted: Container[str] = (), installed: Path = INSTALLED) -> str:
+    """Runs HOL Light up to define.ml and further files, recorded to a file, with derivations of the wanted names; answers what it printed. It
+    takes some minutes."""
     if not (installed / "hol.ml").exists():
         raise NoHolLight(ADVICE)
     with tempfile.TemporaryDirectory() as folder:
         room = Path(folder)
         prepare(room, installed)
-        before, rest = script(installed, further)
+        before, rest = script(room, further, wanted)
         (room / "recorded_init.ml").write_text(before, encoding="utf-8")
         environment = dict(os.environ, HOLLIGHT_DIR=folder, HOLLS_RECORD=str(target), OCAMLRUNPARAM="s=4M,l=64M")
         done = subprocess.run([str(room / "ocaml"), "-noprompt", "-init", str(room / "recorded_init.ml")], input=rest, stdout=subprocess.PIPE,

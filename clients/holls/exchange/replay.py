@@ -10,7 +10,7 @@ import time
 from typing import Dict, Iterator, List, NamedTuple, Optional, Sequence, Tuple
 
 from holls import terms
-from holls.exchange import likes, simplifying
+from holls.exchange import derivations, likes, simplifying
 from holls.exchange.citing import Citations, Uncitable
 from holls.exchange.neutral import Node, Record, Translator, Untranslatable
 from holls.protocol import Goal, Goals
@@ -63,6 +63,12 @@ class Replay:
         self._trees: Dict[str, object] = {}
         self._goal_trees: Dict[int, object] = {}
         self.hints: List[str] = []
+        self._numbers: Dict[int, int] = {}
+        self.step_seconds = _STEP_SECONDS
+        self.is_searching = True
+        """Whether what no step does is searched for, where a derivation may be had."""
+        self.derived: List[str] = []
+        """The rendered parts of the proof that are derivations."""
 
     def taken(self) -> None:
         """What stands has changed."""
@@ -106,6 +112,7 @@ class Replay:
         for one in proof.nodes:
             node = self.record.nodes[one]
             self._nodes[node.goal] = node
+            self._numbers[node.goal] = one
             goal = self.record.goals[node.goal]
             self._alike[goal.conclusion, goal.assumptions] = node.goal
         short = self._rewritten(goals, self.hints[:_MOST_HINTS])
@@ -386,7 +393,7 @@ class Replay:
         """The goals behind a step; None where it is refused, or takes too long."""
         if time.monotonic() > self.until:
             return None
-        report = self.asker.attempt("e " + text, time.monotonic() + _STEP_SECONDS)
+        report = self.asker.attempt("e " + text, time.monotonic() + self.step_seconds)
         return report if isinstance(report, Goals) else None
 
     def _is_like(self, goal: Goal, number: int) -> bool:

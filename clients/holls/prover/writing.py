@@ -145,7 +145,11 @@ class Quoter:
             return _bare(written.text)
         names = [point for point in written.points if isinstance(point, str)]
         places = sorted((point for point in written.points if not isinstance(point, str)), key=lambda point: (point[0], point[0] * -point[1]))
-        annotated = frozenset(written.points)
+        annotated = frozenset(names)
+        if self._reads(_Writer(term, annotated, self.taken).text, term):
+            places = []  # With the variables' types nothing else needs one, as mostly.
+        else:
+            annotated = frozenset(written.points)
         if any(name.startswith("?") for name in typed.term_types(term)):
             raise Unwritable(written.text)
         if not self._reads(_Writer(term, annotated, self.taken).text, term):
