@@ -62,9 +62,9 @@ members_use_infinity (x ∷ earlier) legal = member_uses_infinity (item_set earl
 abbrev pub theorem_uses_infinity : (t : Theorem) → IsTheorem t → Bool
 theorem_uses_infinity t is = uses_infinity t.basis _ _ is.derives || members_use_infinity is.legal.0 is.legal.1
 
--- a theorem that has a derivation by INFINITY_AX
-abbrev pub UsesInfinity : Theorem → Type 0
-UsesInfinity t = (is : IsTheorem t) × (theorem_uses_infinity t is ≡ true)
+-- whatever shows that it is a theorem uses INFINITY_AX: it has no derivation without it, counting those of the members of the types that its basis defines
+abbrev pub NeedsInfinity : Theorem → Type 0
+NeedsInfinity t = (is : IsTheorem t) → theorem_uses_infinity t is ≡ true
 
 -- |- F, without hypotheses
 abbrev pub StatesFalsity : Theorem → Type 0

@@ -1,4 +1,5 @@
--- What a universe of values would be in which INFINITY_AX is true too: a set theory as far as HOL needs it. The toolchain's logic has none.
+-- What a universe of values would be in which INFINITY_AX is true too: a set theory with what HOL needs, and with a table of each function on values over a set. The toolchain's
+-- logic has none.
 use Rattle.std.specs.Prelude.{◌≡◌, ◌⊎◌, Bool, true}
 
 -- Operations on values, and on sets of them, which may be empty, by which terms of HOL can be given values.

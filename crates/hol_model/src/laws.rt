@@ -16,7 +16,7 @@ pub fn falsity_needs_infinity()
 {}
 
 /// So has each one over a legal list of declared types, declared constants, constant definitions and type definitions, if the members of the defined types were
-/// derived without INFINITY_AX: no declaration and no definition makes F derivable.
+/// derived without INFINITY_AX: no declaration and no definition makes F derivable without it.
 pub fn definitions_need_infinity_for_falsity()
     ensures { (order : List Item) (legal : IsLegal order) → HasNoAxiom (item_set order) → members_use_infinity order legal ≡ false →
         (t : Derives (item_set order) no_hyps falsity) → uses_infinity (item_set order) no_hyps falsity t ≡ true }

@@ -16,7 +16,8 @@ use Rattle.hol_wire.specs.Replies.{ReplyValue, Refused, ByDocuments, LineTooLong
 use Rattle.hol_wire.specs.Texts.{Says}
 use Rattle.hol_session.specs.Lines.{line_limit}
 use Rattle.hol_session.specs.Served.{IsServed}
-use Rattle.hol_session.specs.Machine.{Counted, counted, ReadsAs, Edits, ServesIf, too_long, no_json, served, no_memory, MayAnswer}
+use Rattle.hol_session.specs.Machine.{Counted, counted, ReadsAs, Edits, ServesIf, Machine, too_long, no_json, served, no_memory, MayAnswer}
+use Rattle.hol_session.proofs.Theorems.{machine_tells}
 
 -- what a refusal tells, where it is this one
 pub told : (P : Refusal → Type 0) (error : DocsError) (refusal : Refusal) → error ≡ DocsError.Refused refusal → IfRefused P error → P refusal
@@ -59,29 +60,34 @@ unfolding serde_json_on_literals
 empty_is_no_json [] d e = absurd (cc)
 empty_is_no_json (b ∷ bs) d e = λ f. absurd (cc)
 
+-- an answer of the machine, with what it tells of theorems
+told_of : (old new : Counted) (line : List ℕ) (value : ReplyValue) (reply : Reply) → Machine old line value new → Says value reply
+    → MayAnswer old line (reply_bytes reply.text) reply.closes new
+told_of old new line value reply machine says = (value, machine, machine_tells old new line value machine, says.0, says.1)
+
 pub line_no_json : (old : Counted) (line : List ℕ) (reply : Reply) → length line ≤ line_limit → (IsUtf8 line → read line ≡ None) → Says (Refused NotJson) reply
     → MayAnswer old line (reply_bytes reply.text) reply.closes old
 line_no_json old line reply short none says =
-    (Refused NotJson, no_json short (λ d (utf8, is). (let e : None ≡ Some d = sym (none utf8) ∙ is in absurd (cc))) refl refl, says.0, says.1)
+    told_of old old line (Refused NotJson) reply (no_json short (λ d (utf8, is). (let e : None ≡ Some d = sym (none utf8) ∙ is in absurd (cc))) refl refl) says
 
 pub line_no_memory : (old new : Counted) (line : List ℕ) (reply : Reply) → length line ≤ line_limit → line ≢ [] → new.documents ≡ old.documents → old.ran ≤ new.ran → Says (Refused Memory) reply
     → MayAnswer old line (reply_bytes reply.text) reply.closes new
-line_no_memory old new line reply short some same rises says = (Refused Memory, no_memory short some refl same rises, says.0, says.1)
+line_no_memory old new line reply short some same rises says = told_of old new line (Refused Memory) reply (no_memory short some refl same rises) says
 
 pub line_shape : (old : Counted) (line : List ℕ) (d : Data) (reply : Reply) → length line ≤ line_limit → ReadsAs line d → request_of d ≡ None → Says (Refused Shape) reply
     → MayAnswer old line (reply_bytes reply.text) reply.closes old
 line_shape old line d reply short reads none says =
-    (Refused Shape, served short d reads (subst (λ (o : Option RequestText). ServesIf old o (Refused Shape) old) (sym none) (refl, refl)), says.0, says.1)
+    told_of old old line (Refused Shape) reply (served short d reads (subst (λ (o : Option RequestText). ServesIf old o (Refused Shape) old) (sym none) (refl, refl))) says
 
 pub line_served : (old new : Counted) (line : List ℕ) (d : Data) (request : RequestText) (reply : Reply) → length line ≤ line_limit → ReadsAs line d → request_of d ≡ Some request
     → IsServed old request new reply
     → MayAnswer old line (reply_bytes reply.text) reply.closes new
 line_served old new line d request reply short reads is (value, says, serves) =
-    (value, served short d reads (subst (λ (o : Option RequestText). ServesIf old o value new) (sym is) serves), says.0, says.1)
+    told_of old new line value reply (served short d reads (subst (λ (o : Option RequestText). ServesIf old o value new) (sym is) serves)) says
 
 pub line_overlong : (old : Counted) (line : List ℕ) (reply : Reply) → line_limit < length line → Says (Refused LineTooLong) reply
     → MayAnswer old line (reply_bytes reply.text) reply.closes old
-line_overlong old line reply long says = (Refused LineTooLong, too_long long refl refl, says.0, says.1)
+line_overlong old line reply long says = told_of old old line (Refused LineTooLong) reply (too_long long refl refl) says
 
 pub some_line : (line : List ℕ) → 0 < length line → line ≢ []
 some_line [] h = absurd (omega arith)

@@ -12,6 +12,7 @@ use Rattle.hol_document.specs.Shown.{ShowsProved, TellsOfProved, ListsProved}
 use Rattle.hol_wire.specs.Requests.{RequestText, NewTheory, DropTheory, Insert, Replace, Remove, Report, Theorems, Basis, Stats, Close, request_of}
 use Rattle.hol_wire.specs.Replies.{LineTooLong, NotJson, Shape, ByDocuments, Memory, ReplyValue, Refused, Done, Reports, Lists, RestsOn, Counts, Closed, reply_line, closes}
 use Rattle.hol_session.specs.Lines.{line_limit}
+use Rattle.hol_session.specs.Theorems.{TellsOfTheorems}
 
 -- the line is this JSON value, as `serde_json`'s `Value` reads it
 abbrev pub ReadsAs : List ℕ → Data → Type 0
@@ -82,6 +83,7 @@ pub data Machine (old : Counted) (line : List ℕ) (reply : ReplyValue) (new : C
   served : length line ≤ line_limit → (d : Data) → ReadsAs line d → ServesIf old (request_of d) reply new → Machine old line reply new
   no_memory : length line ≤ line_limit → line ≢ [] → reply ≡ Refused Memory → new.documents ≡ old.documents → old.ran ≤ new.ran → Machine old line reply new
 
--- the same of a reply's bytes
+-- The same of a reply's bytes. What it tells of theorems is so.
 abbrev pub MayAnswer : Counted → List ℕ → List ℕ → Bool → Counted → Type 0
-MayAnswer old line text closed new = (reply : ReplyValue) × Machine old line reply new × (text ≡ reply_line reply) × (closed ≡ closes reply)
+MayAnswer old line text closed new =
+    (reply : ReplyValue) × Machine old line reply new × TellsOfTheorems old.documents reply × (text ≡ reply_line reply) × (closed ≡ closes reply)

@@ -17,7 +17,7 @@ ghost use Rattle.hol_session.specs.Theorems.{TellsOfTheorems};
 
 /// What a reply tells of theorems is so, whichever the line is.
 pub fn replies_tell_of_theorems()
-    ensures { (old new : Counted) (line : List ℕ) (reply : ReplyValue) → Machine old line reply new → TellsOfTheorems reply }
+    ensures { (old new : Counted) (line : List ℕ) (reply : ReplyValue) → Machine old line reply new → TellsOfTheorems old.documents reply }
 {}
 
 /// The report on a `qed` that made something tells of one theorem: by its name and its statement, it is that of the last `g` that was accepted before it.
@@ -28,7 +28,7 @@ pub fn finished_proofs_tell_their_goals()
         × (texts ≡ (codes "thm " ++ name ++ codes " " ++ theorem_text statement) ∷ []) }
 {}
 
-/// A theorem that a theory has was made there by a `qed`, an axiom, a definition or a type definition, or imported from an earlier theory, where it was.
+/// A theorem that a theory has was made there by a `qed`, an axiom, a definition or a type definition, or imported from an earlier theory, of whose theorems the same holds.
 pub fn theorems_have_origins()
     ensures { (docs : Documents) (before : List TheoryRun) (run : TheoryRun) (later : List TheoryRun)
         → AreRunsOf docs (before ++ run ∷ later) → All (HasOrigin before run.rows) run.last.entries }

@@ -1,10 +1,9 @@
 //! The lines of a reader, answered over documents.
 
-ghost use Rattle.std.specs.Prelude.{◌≡◌, ◌≢◌, ◌⊎◌, [], Bool, Err, Some, IfOk, OnOk};
+ghost use Rattle.std.specs.Prelude.{◌≡◌, ◌≢◌, ◌⊎◌, Bool, Err, IfOk, OnOk};
 ghost use Rattle.hol_session.specs.Lines.{lines_of, read_limit};
 ghost use Rattle.hol_session.specs.Machine.{MayAnswer, counted};
 ghost use Rattle.hol_session.specs.Session.{Answers, CountsUp, Finishes, StopsReading, StopsWriting};
-ghost use Rattle.hol_session.specs.Theorems.{WritesTheorems};
 
 use crate::answering::answer;
 use crate::lines::{Fault, Service, Sink, Source, Watched, run_lines};
@@ -53,8 +52,6 @@ pub fn run<R: Source, W: Sink, D: Editable>(
     ensures write_fault { result ≡ Err Fault.Write → StopsWriting MayAnswer (counted (D.value docs.old) (D.ran docs.old)) (counted (D.value docs.new) (D.ran docs.new))
         (R.remaining reader.old) (R.remaining reader.new) (W.contents writer.old) (W.contents writer.new)
         × W.has_failed writer.new }
-    // Each theorem that is told of is one.
-    ensures theorems { WritesTheorems (W.contents writer.old) (W.contents writer.new) }
     // No fault is passed over.
     ensures reads { result ≢ Err Fault.Read → R.has_failed reader.new → R.has_failed reader.old }
     ensures writes { result ≢ Err Fault.Write → W.has_failed writer.new → W.has_failed writer.old }
@@ -74,7 +71,6 @@ pub fn run<R: Source, W: Sink, D: Editable>(
 pub fn answer_all<D: Editable>(alloc: Global, text: &[u8], docs: &mut D) -> Result<Vec<u8>, Fault>
     ensures answers { IfOk result (λ bytes. (closed : Bool)
         × Answers MayAnswer (counted (D.value docs.old) (D.ran docs.old)) (lines_of text.now) bytes.items closed (counted (D.value docs.new) (D.ran docs.new))) }
-    ensures theorems { IfOk result (λ bytes. WritesTheorems (Some []) (Some bytes.items)) }
 {
     let mut reader = Watched::new(text);
     let mut writer = Watched::new(Vec::new(alloc));

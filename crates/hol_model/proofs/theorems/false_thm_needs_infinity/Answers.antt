@@ -2,4 +2,4 @@ use Rattle.hol_model.proofs.Consistency.{theorem_consistent}
 use Rattle.hol_model.proofs.theorems.false_thm_needs_infinity.Goals as goal
 
 pub returns : goal.returns
-returns c = λ states none. (c.promise.ensures, theorem_consistent c.args.th.now states none c.promise.ensures)
+returns c = theorem_consistent c.args.th.now

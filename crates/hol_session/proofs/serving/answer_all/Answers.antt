@@ -5,8 +5,8 @@ use Rattle.hol_session.specs.Session.{Finishes}
 use Rattle.hol_session.proofs.WholeTexts.{whole_text}
 use Rattle.hol_session.proofs.serving.answer_all.Goals as goal
 
-pub returns-clause-answers : goal.returns-clause-answers
-returns-clause-answers g c =
+pub returns : goal.returns
+returns g c =
     let old : Counted = counted (g.D.Editable.value c.args.docs.now) (g.D.Editable.ran c.args.docs.now) in
     let new : Counted = counted (g.D.Editable.value c.run.new.docs) (g.D.Editable.ran c.run.new.docs) in
     let left : List ℕ = c.run.new.reader.inner.now in

@@ -3,7 +3,6 @@ use Rattle.std.proofs.lemmas.Result.{on_ok_weaker}
 use Rattle.hol_session.specs.Machine.{MayAnswer}
 use Rattle.hol_session.proofs.Machines.{seen}
 use Rattle.hol_session.proofs.Sessions.{finishes_seen, stops_reading_seen, stops_writing_seen}
-use Rattle.hol_session.proofs.Theorems.{finishes_tell, stops_reading_tells, stops_writing_tells, nothing_tells, ends_tell}
 use Rattle.hol_session.proofs.serving.run.Goals as goal
 
 pub returns-clause-ok : goal.returns-clause-ok
@@ -20,11 +19,3 @@ returns-clause-write_fault g c e =
 pub returns-clause-memory : goal.returns-clause-memory
 returns-clause-memory g c e =
     let (reader, writer, docs) = c.run_lines.ensures.memory e in (reader, writer, ap g.D.Editable.value docs, ap g.D.Editable.ran docs)
-
-pub returns-clause-theorems : goal.returns-clause-theorems
-returns-clause-theorems g c =
-    ends_tell c.run_lines.result _
-    (on_ok_weaker c.run_lines.result (λ h. finishes_tell _ _ _ _ _ _ (finishes_seen (seen g.D.Editable.value g.D.Editable.ran) MayAnswer _ _ _ _ _ _ h)) c.run_lines.ensures.ok)
-    (λ e. stops_reading_tells _ _ _ _ _ _ (stops_reading_seen (seen g.D.Editable.value g.D.Editable.ran) MayAnswer c.args.docs.now c.run_lines.new.state _ _ _ _ (c.run_lines.ensures.read_fault e).0))
-    (λ e. stops_writing_tells _ _ _ _ _ _ (stops_writing_seen (seen g.D.Editable.value g.D.Editable.ran) MayAnswer c.args.docs.now c.run_lines.new.state _ _ _ _ (c.run_lines.ensures.write_fault e).0))
-    (λ e. nothing_tells _ _ (ap g.W.Write.contents (c.run_lines.ensures.memory e).1))
