@@ -69,7 +69,7 @@ pub fn run<R: Source, W: Sink, D: Editable>(
 /// - `Fault::Write` where memory for the replies isn't had: some of the lines were answered, and the documents are those after them.
 /// - `Fault::Read` after 2^32 pieces of 4,096 bytes, with the same.
 pub fn answer_all<D: Editable>(alloc: Global, text: &[u8], docs: &mut D) -> Result<Vec<u8>, Fault>
-    ensures answers { IfOk result (λ bytes. (closed : Bool)
+    ensures { IfOk result (λ bytes. (closed : Bool)
         × Answers MayAnswer (counted (D.value docs.old) (D.ran docs.old)) (lines_of text.now) bytes.items closed (counted (D.value docs.new) (D.ran docs.new))) }
 {
     let mut reader = Watched::new(text);
