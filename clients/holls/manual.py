@@ -63,6 +63,13 @@ ONCE_ASM_REWRITE_TAC [th; ..] | Does what ONCE_REWRITE_TAC does, by the assumpti
 """)
 """The functions on goals."""
 
+STEPS = _entries(r"""
+INDUCT_ON `x` | First in a command: induction on a variable of an inductive type, by the theorem of its type.
+CASES_ON `t` | First in a command: the cases of a term of an inductive type.
+RULE_INDUCT R | First in a command: induction on the rules of R, of a goal `!.. R x y ==> p`.
+""")
+"""The steps that the clients expand (docs/PACKAGES.md)."""
+
 TACTICALS = _entries(r"""
 THEN tac | `t THEN u` runs t, then u on each goal that is left; it binds tighter than ORELSE.
 THENL [tac; ..] | `t THENL [u; ..]` runs t, then each on the goal of its place; there have to be as many as goals.
@@ -124,6 +131,7 @@ PACKAGES = _entries(r"""
 define_type NAME = CONSTRUCTOR type .. | .. | Declares a type with constructors, and makes its theorems of induction, recursion, cases and equality.
 define NAME `clauses` | Defines functions by clauses with patterns, and makes the theorem NAME of them; `by_measure` says what gets smaller at each call.
 inductive NAME `rules` | Defines the least relation that has the rules, and makes NAME_RULES, NAME_INDUCT, NAME_STRONG_INDUCT and NAME_CASES.
+theorems NAME = [th; ..] | Names a list of theorems, which then stands in any list.
 sorry | Ends the open proof: what it was to prove is an axiom from here on, with a warning.
 """)
 """The commands of a file that stand for several of the program's (docs/WRITING.md)."""
@@ -166,5 +174,5 @@ TYPES = {"bool": "the truth values, T and F", "ind": "an infinite type (INFINITY
 
 def entry(name: str) -> Optional[Entry]:
     """What there is to say of a function, a tactical, a rule, a command, a declaration or a package."""
-    every = (FUNCTIONS, TACTICALS, RULES, COMMANDS, DECLARATIONS, PACKAGES)
+    every = (FUNCTIONS, STEPS, TACTICALS, RULES, COMMANDS, DECLARATIONS, PACKAGES)
     return next((entries[name] for entries in every if name in entries), None)

@@ -6,9 +6,9 @@ import re
 from dataclasses import dataclass
 from typing import Dict, List, Mapping, NamedTuple, Optional, Sequence, Tuple
 
-from holls.packages import expansion
+from holls.packages import expansion, listed, replacing
 from holls.packages.parts import Course, parts
-from holls.packages.scope import Standing
+from holls.packages.scope import Asking, Standing
 from holls.surface import declarations
 from holls.surface.declarations import NOTHING, Declaration, Scope
 from holls.surface.errors import Misread
@@ -97,6 +97,7 @@ class Notation:
     def __init__(self, written: Sequence[Command], imported: Mapping[str, "Notation"]) -> None:
         self.commands: List[Command] = []
         self.has_packages = False
+        self.lists = {name for one in imported.values() for name in one.lists}
         self._imported = imported
         self._course = Course(lambda: [one.standing for one in self._imported.values()])
         self._own = hash(tuple(command.text for command in written if command.word in _STANDING))
@@ -140,6 +141,8 @@ class Notation:
         word = command.word
         if word in declarations.WORDS:
             self._declare(number, command)
+        elif word == "theorems":
+            self._list(number, command)
         elif word in expansion.WORDS:
             self._expand(command)
             return
@@ -148,6 +151,9 @@ class Notation:
         else:
             self._standing.number = number
             found = translated(command.text, self._scope.table, self._standing)
+            placed = replacing.translated(found, word, self.lists, lambda: self._course.behind(self.commands))
+            self.has_packages = self.has_packages or placed is not found
+            found = placed
             if found.segments is not None or found.error is not None:
                 made = Sent(found.text, command.start, command.end, command.marks, command, found)
             if word in _NAMING:
@@ -171,6 +177,23 @@ class Notation:
             self.tables.append(table)
         self._course.behind(self.commands)
         self._course.add(found)
+
+    def _list(self, number: int, command: Command) -> None:
+        """Takes a name for a list of theorems, which the program never gets."""
+        self.has_packages = True
+        self.declared[number] = Declaration("", (), (), True)
+        standing = self._course.behind(self.commands)
+        self._standing.number = number
+        found = translated(command.text, self._scope.table, self._standing)
+        try:
+            if found.error is not None:
+                raise found.error
+            name, members = listed.read(found.text, Asking(standing))
+            standing.lists[name] = members
+            self.lists.add(name)
+        except Misread as error:
+            where = (error.start, error.end) if found.error else found.range(error.start, error.end)
+            self.blemishes.append(Blemish(*command.range(*where), error.text, True))
 
     def _declare(self, number: int, command: Command) -> None:
         """Takes a declaration; one that can't stand is told, and does nothing."""

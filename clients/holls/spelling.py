@@ -83,10 +83,17 @@ def expanded(file: File) -> Tuple[str, List[str]]:
             troubles.append(_trouble(file, start, command.error.text))
         elif command.package is not None:
             changes += _expanded(file, number)
+        elif command is not command.as_written and _is_otherwise(command):
+            changes.append(Change(command.start, command.end, command.text))
         elif command is not command.as_written:
             plain = command.text.split("`")[1::2]
             changes += _quotations(file, command.as_written, lambda at, _, plain=plain: plain[at])
     return _changed(file.lines.text, changes), troubles
+
+
+def _is_otherwise(command: Command) -> bool:
+    """Whether more of a command is sent otherwise than quotations."""
+    return command.text.split("`")[::2] != command.as_written.text.split("`")[::2]
 
 
 def _expanded(file: File, number: int) -> Iterator[Change]:

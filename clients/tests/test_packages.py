@@ -174,6 +174,65 @@ class Relations(unittest.TestCase):
                 self.assertTrue(found[0][0].startswith(where), found)
 
 
+class Steps(unittest.TestCase):
+    def sent(self, text):
+        """What is sent of a file's last command."""
+        return read(text).commands[-1].text
+
+    def test_induction_is_by_the_theorem_of_the_type(self):
+        self.assertEqual(self.sent("g A `!n. n + 0 = n`;;\ne INDUCT_ON `n` THEN REWRITE_TAC [];;"),
+                         "e (MATCH_MP_TAC NUM_INDUCT THEN BETA_TAC THEN CONJ_TAC THENL [ALL_TAC; ALL_TAC]) THEN REWRITE_TAC []")
+        self.assertIn("SPEC_TAC (`(n:num)`,`(n:num)`) THEN MATCH_MP_TAC NUM_INDUCT", self.sent("g A `!m n. n + m = m`;;\ne INDUCT_ON `n`;;"))
+        self.assertIn("SPEC_TAC (`(n:num)`,`(n:num)`) THEN MATCH_MP_TAC NUM_INDUCT", self.sent("g A `!n. n + 0 = n`;;\ne GEN_TAC;;\ne INDUCT_ON `n`;;"))
+        self.assertIn("MATCH_MP_TAC t_SPLIT", self.sent("define_type t = C | D t;;\ng A `!x. x = C`;;\ne CASES_ON `x`;;"))
+
+    def test_induction_on_rules_keeps_what_else_is_quantified(self):
+        found = self.sent("inductive EV `EV 0 /\\ (!n. EV n ==> EV (SUC (SUC n)))`;;\ng A `!n. EV n ==> ?m. n = m + m`;;\ne RULE_INDUCT EV;;")
+        self.assertIn("(SPEC `\\(n:num). ?(m:num). n = add m m` EV_INDUCT)", found)
+
+    def test_places_lead_back_to_what_is_written(self):
+        text = "g A `!n. n + 0 = n`;;\ne INDUCT_ON `n` THEN REWRITE_TAC [FOO];;"
+        file = read(text)
+        command, whole = file.commands[-1], file.lines.text
+        at = command.text.index("FOO")
+        self.assertEqual(whole[slice(*command.range(at, at + 3))], "FOO")
+        self.assertEqual(command.offset(whole.index("FOO")), at)
+        self.assertEqual(whole[slice(*command.range(3, 15))], "INDUCT_ON `n`")
+
+    def test_what_is_wrong_is_told_at_its_word(self):
+        for text, where, words in (
+                ("g A `!n. n = 0`;;\ne REPEAT GEN_TAC THEN INDUCT_ON `n`;;", "INDUCT_ON", "first in a command"),
+                ("e INDUCT_ON `n`;;", "INDUCT_ON", "no proof is open"),
+                ("g A `!n. n = 0`;;\ne INDUCT_ON `k`;;", "k", "no variable `k`"),
+                ("g A `!x:A. x = x`;;\ne INDUCT_ON `x`;;", "x", "no inductive type"),
+                ("g A `!n. n = 0`;;\ne INDUCT_ON;;", "INDUCT_ON", "is written INDUCT_ON `x`"),
+                ("g A `!n. n = 0`;;\ne RULE_INDUCT EV;;", "EV", "no inductive relation")):
+            with self.subTest(text):
+                found = [one for one in told(text) if "isn't ended" not in one[1]]
+                self.assertEqual(len(found), 1, found)
+                self.assertEqual(found[0][0], where)
+                self.assertIn(words, found[0][1])
+
+
+class Lists(unittest.TestCase):
+    def test_a_list_stands_in_lists_and_in_files_that_import_it(self):
+        first, second = File("first.hol"), File("second.hol")
+        first.take(IMPORT + "theorems BASIC = [FORALL_SIMP; SPEC `0` ADD_0; AND_CLAUSES];;\ntheorems MORE = [BASIC; LE_REFL];;")
+        second.take("import first;;\ng A `T`;;\ne REWRITE_TAC [MORE; LT_REFL];;")
+        share_notation([*library(), first, second])
+        self.assertEqual(second.commands[-1].text, "e REWRITE_TAC [FORALL_SIMP; SPEC `_0` ADD_0; AND_CLAUSES; LE_REFL; LT_REFL]")
+        self.assertEqual([one.word for at, one in enumerate(first.commands) if not first.is_declaration(at)], ["import"])
+
+    def test_what_is_wrong_is_told_at_its_word(self):
+        for text, where, words in (
+                ("theorems L = [NOTHING];;", "NOTHING", "no theorem"), ("theorems L;;", "theorems L", "of the form"),
+                ("theorems TRUTH = [FORALL_SIMP];;", "TRUTH", "names a theorem"), ("theorems EQ_REFL = [FORALL_SIMP];;", "EQ_REFL", "names a theorem"),
+                ("theorems L = [FORALL_SIMP];;\ng A `T`;;\ne ACCEPT_TAC L;;", "L", "stands among those of a list")):
+            with self.subTest(text):
+                found = [one for one in told(text) if words in one[1]]
+                self.assertEqual([one[0] for one in found], [where], told(text))
+
+
 class Files(unittest.TestCase):
     def test_a_file_without_packages_is_sent_as_it_is(self):
         text = "import arithmetic;;\ng A `x = x`;;\ne REFL_TAC;;\nqed;;\n"

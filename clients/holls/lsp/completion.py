@@ -49,7 +49,7 @@ def at(files: Sequence[File], theories: Iterable[str], file: File, place: int, f
     first, second = ("0", "3") if notation.is_function_place(written.text, offset) else ("3", "0")
     return (
         [_known(one, first, view) for one in visible if one.kind == TACTIC]
-        + [_own(name, entry, METHOD, first) for name, entry in manual.FUNCTIONS.items()]
+        + [_own(name, entry, METHOD, first) for name, entry in (*manual.FUNCTIONS.items(), *manual.STEPS.items())]
         + [_own(name, entry, KEYWORD, first + "1") for name, entry in manual.TACTICALS.items()]
         + [_own(name, entry, FUNCTION, second) for name, entry in manual.RULES.items()] + theorems)
 

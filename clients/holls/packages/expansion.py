@@ -5,7 +5,7 @@ from __future__ import annotations
 from dataclasses import dataclass
 from typing import Any, Callable, Dict, List, Mapping, Optional, Tuple
 
-from holls.packages import datatypes, functions, relations
+from holls.packages import datatypes, functions, listed, relations
 from holls.packages.output import HIDDEN, PUBLIC, Output, Plain
 from holls.packages.parsing import Place
 from holls.packages.scope import THEORY, Asking, Standing, agrees
@@ -47,7 +47,7 @@ def _define_type(text: str, place: Place, out: Output) -> None:
 
 PACKAGES: Dict[str, Callable[[str, Place, Output], None]] = {"define_type": _define_type, "define": functions.expand, "inductive": relations.expand}
 """The packages by their words, each with what expands it."""
-WORDS: Dict[str, str] = {"define_type": datatypes.FORM, "define": functions.FORM, "inductive": relations.FORM, "sorry": "sorry"}
+WORDS: Dict[str, str] = {"define_type": datatypes.FORM, "define": functions.FORM, "inductive": relations.FORM, "sorry": "sorry", "theorems": listed.FORM}
 """The words that begin a package, and how each is written."""
 
 

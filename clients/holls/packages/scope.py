@@ -8,6 +8,7 @@ from __future__ import annotations
 from dataclasses import dataclass, field
 from typing import Any, Callable, Dict, Iterable, List, Mapping, Optional, Sequence, Set, Tuple, Union
 
+from holls.manual import PRELUDE
 from holls.packages import terms
 from holls.packages.inference import Inference, check_depth, namer, type_of, typed
 from holls.packages.terms import BOOL, LOGIC, NUM, Term, Type, fun, solved, unify
@@ -139,6 +140,7 @@ class Standing:
     lists: Dict[str, Tuple[str, ...]] = field(default_factory=dict)
     functions: Set[str] = field(default_factory=set)
     open: Optional[Tuple[str, str]] = None
+    steps: List[str] = field(default_factory=list)
 
     @staticmethod
     def over(imported: Iterable["Standing"]) -> "Standing":
@@ -164,7 +166,9 @@ class Standing:
         name = names[0] if names else ""
         quoted = parts[1] if len(parts) > 1 else ""
         if word == "g":
-            self.open = (name, quoted)
+            self.open, self.steps = (name, quoted), []
+        elif word in ("e", "b", "r"):
+            self.steps.append(text)
         elif word == "qed" and self.open:
             self.theorems.setdefault(*self.open)
         elif word == "new_axiom" and name:
@@ -270,7 +274,7 @@ class Standing:
 
     def statement(self, name: str) -> Optional[Term]:
         """A theorem's statement; None where it doesn't stand or isn't known by its text."""
-        kept = self.theorems.get(name)
+        kept = self.theorems.get(name, PRELUDE.get(name))
         if isinstance(kept, str):
             try:
                 reader = Reader(kept.strip(), EMPTY, None)
@@ -382,7 +386,7 @@ class Asking:
 
     def is_theorem(self, name: str) -> bool:
         """Whether a theorem of this name stands, or a name of a theorem is given away."""
-        return self._asked("is_theorem", name, name in self.standing.theorems)
+        return name in PRELUDE or self._asked("is_theorem", name, name in self.standing.theorems)
 
     def is_constant(self, name: str) -> bool:
         """Whether a constant of this name stands."""

@@ -1,0 +1,65 @@
+"""What packages put into other commands: the plain steps of `INDUCT_ON` and its like, and the theorems of named lists."""
+
+from __future__ import annotations
+
+import re
+from typing import AbstractSet, Callable, List, Sequence
+
+from holls.packages import listed, steps
+from holls.packages.scope import Asking, Standing
+from holls.packages.steps import Change
+from holls.surface.errors import Misread
+from holls.surface.plain import Segment
+from holls.surface.translation import Translation
+
+_NAMES = re.compile(r"[A-Za-z_][A-Za-z0-9_']*")
+_USING = ("e", "deftac", "theorems")
+"""The commands in which lists of theorems stand."""
+
+
+def translated(found: Translation, word: str, lists: AbstractSet[str], standing: Callable[[], Standing]) -> Translation:
+    """A command's translation with what packages put into it."""
+    if word not in _USING or found.error is not None:
+        return found
+    has_step = word == "e" and any(one in found.text for one in steps.WORDS)
+    has_list = bool(lists) and any(one in lists for one in _NAMES.findall(found.text))
+    if not has_step and not has_list:
+        return found
+    now = standing()
+    asking = Asking(now)
+    try:
+        made: List[Change] = listed.changes(found.text, asking) if has_list else []
+        if has_step:
+            statement = now.open[1] if now.open else None
+            made += steps.changes(found.text, asking, statement, now.steps)
+    except Misread as error:
+        return Translation("", None, Misread(*found.range(error.start, error.end), error.text), found.answers)
+    except RecursionError:
+        return Translation("", None, Misread(0, 1, "this is nested too deeply for a package"), found.answers)
+    return replaced(found, made) if made else found
+
+
+def replaced(found: Translation, changes: Sequence[Change]) -> Translation:
+    """A translation in which other texts stand at some ranges outside of quotations."""
+    text = found.text
+    segments: List[Segment] = list(found.segments) if found.segments is not None else [(0, 0, len(text))]
+    for change in sorted(changes, reverse=True):
+        start, end = found.range(change.start, change.end)
+        grown = len(change.text) - (change.end - change.start)
+        before = [one for one in segments if one[0] < change.start]
+        behind = [(offset + grown, first, last) for offset, first, last in segments if offset >= change.end]
+        rest = found.range(change.end, len(found.text))[0] if change.end < len(found.text) else end
+        whole = _last_end(segments, change.end, len(found.text))
+        if before and before[-1][2] > start:
+            before[-1] = (before[-1][0], before[-1][1], start)
+        middle: List[Segment] = [(change.start, start, end)]
+        if change.end < len(text) and (not behind or behind[0][0] > change.end + grown):
+            middle.append((change.end + grown, rest, whole))
+        segments = [*before, *middle, *behind]
+        text = text[:change.start] + change.text + text[change.end:]
+    return Translation(text, segments, None, found.answers)
+
+
+def _last_end(segments: Sequence[Segment], offset: int, length: int) -> int:
+    """Where the segment of a place ends in the command as it is written."""
+    return max((last for start, _, last in segments if start < max(offset, 1)), default=length) if segments else length
