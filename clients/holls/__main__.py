@@ -1,5 +1,5 @@
 """The command line: `holls check FILE..`, `holls search QUERY..`, `holls prove FILE:LINE`, `holls repl`, `holls export`, `holls import`,
-`holls page` and `holls lsp`."""
+`holls grade`, `holls page` and `holls lsp`."""
 
 from __future__ import annotations
 
@@ -17,6 +17,7 @@ KINDS = {
     "import": ("holls.exchange.importing", "bring theorems of HOL Light over, from a recorded run"),
     "expand": ("holls.spelling", "print a file as the program reads it, without notation"),
     "write": ("holls.spelling", "print a plain file in the notation that it declares or imports"),
+    "grade": ("holls.course.grading", "judge what a course's students have sent: a table of what is proved"),
     "page": ("holls.page", "open the page in the browser: an editor, goals and a first hour"),
     "lsp": ("holls.lsp.bridge", "speak the Language Server Protocol on standard input and output"),
 }
