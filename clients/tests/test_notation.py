@@ -225,11 +225,12 @@ class Helped(unittest.TestCase):
             every = [file for files in check.ordered([str(path / name) for name in ("A.hol", "B.hol", "C.hol")]).values() for file in files]
             file = next(one for one in every if one.theory.name == "B")
             found = next(one for one in findings(file) if one.undeclared == "+")
-            self.assertEqual(found.text, "`+` is no operator here; A declares it: import it")
+            self.assertEqual(found.text, "`+` is no operator here; A or arithmetic declares it: import it")
             self.assertEqual([(fix.title, fix.text) for fix in fixes.fixes(found, file, every, every)], [("Import A, which declares +", "import A;;\n")])
             (path / "D.hol").write_text("notation let LET;;\n")
             file = next(one for one in (file for files in check.ordered([str(path)]).values() for file in files) if one.theory.name == "B")
-            self.assertTrue(any(one.undeclared == "let" and one.text.endswith("; D declares it: import it") for one in findings(file)))
+            told = [one.text for one in findings(file) if one.undeclared == "let"]
+            self.assertTrue(told and all("; D or " in text and text.endswith(" declares it: import it") for text in told), told)
 
     def test_a_numeral_of_the_goal_is_written_as_a_successor(self):
         text = "import A;;\ndeftac NUM_REDUCE_TAC ALL_TAC;;\ng X `T`;;\n  e FOO;;"
