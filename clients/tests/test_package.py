@@ -12,7 +12,7 @@ import unittest
 import xml.dom.minidom
 import zipfile
 
-from tests.helpers import CLIENTS, PYTHON, ROOT, SECONDS, fake
+from tests.helpers import CLIENTS, HOLLS, PYTHON, ROOT, SECONDS, fake, proofs
 
 
 class Package(unittest.TestCase):
@@ -65,6 +65,43 @@ class Package(unittest.TestCase):
             subprocess.run(words, cwd=str(tree), check=True, capture_output=True, timeout=SECONDS)
             self.assertTrue((made / "holls" / "data" / "page" / "index.html").is_file())
             self.finds_the_library(pathlib.Path(name), [*PYTHON[:1], "-m", "holls"], env=dict(os.environ, PYTHONPATH=str(made)))
+
+
+class Recipes(unittest.TestCase):
+    """What docs/EDITORS.md has users run in CI, in an empty folder with nothing in the environment but the program."""
+
+    def setUp(self):
+        room = tempfile.TemporaryDirectory()
+        self.addCleanup(room.cleanup)
+        self.folder = pathlib.Path(room.name)
+        (self.folder / "proofs").mkdir()
+        self.file = self.folder / "proofs" / "A.hol"
+
+    def status(self, words):
+        """What these words end with, behind `holls`."""
+        environment = {"HOME": str(self.folder), "PATH": "/usr/bin:/bin", "HOL_SERVE": fake(self.folder)}
+        ran = subprocess.run([*PYTHON, str(HOLLS), *words], cwd=str(self.folder), capture_output=True, timeout=SECONDS, env=environment)
+        self.assertNotIn(b"Traceback", ran.stderr)
+        return ran.returncode
+
+    def tried(self, words):
+        """The words accept what is proved, and nothing that isn't, or that rests on an axiom."""
+        for text, status in ((proofs(2), 0), ("g N `f x = f x`;;\n", 1), ("new_axiom N `f x = f x`;;\n", 1)):
+            self.file.write_text(text)
+            self.assertEqual(self.status(words), status, "%s: %s" % (words, text))
+
+    def test_the_page_has_what_works(self):
+        page = (ROOT / "docs" / "EDITORS.md").read_text(encoding="utf-8")
+        blocks = re.findall(r"^```yaml\n(.*?)^```", page, re.M | re.S)
+        found = [words.split() for block in blocks for words in re.findall(r"bin/holls (check .*)$", block, re.M)]
+        self.assertEqual((len(blocks), len(found)), (3, 2))
+        for words in found:
+            self.tried(words)
+
+    def test_the_hook_of_pre_commit(self):
+        text = (ROOT / ".pre-commit-hooks.yaml").read_text(encoding="utf-8")
+        entry = re.search(r"^  entry: holls (.*)$", text, re.M).group(1).split()
+        self.tried([*entry, "proofs/A.hol"])
 
 
 if __name__ == "__main__":
