@@ -67,7 +67,7 @@ def main(given: argparse.Namespace) -> int:
     wrong = 0
     for unit in units:
         if unit in sent:
-            _wait(unit, sent)
+            _wait(unit, left)
         wrong += shown.unit(unit)
     shown.total(units, wrong)
     for name in _no_axioms(given.allow_axiom, units):
@@ -80,6 +80,8 @@ def main(given: argparse.Namespace) -> int:
 
 def _no_axioms(allowed: Sequence[str], units: Sequence[Unit]) -> List[str]:
     """The names that are allowed and that no axiom has, by the files' texts."""
+    if not allowed:
+        return []
     known = {name for name in PRELUDE if name.endswith("_AX")}
     known.update(command.name for unit in units for command in unit.file.commands if command.word == "new_axiom")
     return [name for name in dict.fromkeys(allowed) if name not in known]
@@ -135,7 +137,7 @@ def ordered(paths: Sequence[str], within: Sequence[str] = ()) -> Dict[str, List[
 def sent(paths: Sequence[str]) -> Dict[str, List[str]]:
     """What is sent of files, and of those that they import, by the names of their theories, each after those that it imports."""
     return {
-        file.theory.name: [command.text for number, command in enumerate(file.commands) if not file.is_declaration(number)]
+        file.name: [command.text for number, command in enumerate(file.commands) if not file.is_declaration(number)]
         for files_of in ordered(paths).values() for file in files_of}
 
 
@@ -181,9 +183,9 @@ def _one_of_each_name(own: Sequence[File]) -> None:
     """Two files of one name can't be theories of one server."""
     names: Dict[str, str] = {}
     for file in own:
-        other = names.setdefault(file.theory.name, file.path)
+        other = names.setdefault(file.name, file.path)
         if other != file.path:
-            raise CannotCheck("%s and %s are both the theory %s of one project: rename one" % (other, file.path, file.theory.name))
+            raise CannotCheck("%s and %s are both the theory %s of one project: rename one" % (other, file.path, file.name))
 
 
 def read(path: str) -> File:
@@ -215,7 +217,7 @@ class _Show:
             self.finding(unit.file, finding, kind)
         wrong = sum(_is_wrong(finding) for finding in said)
         if not wrong:
-            self.memory.keep(unit, said)
+            self.memory.keep(unit, said, {word: _made_by(unit, word) for word in ("qed", "new_axiom")})
         for basis in unit.bases:
             if self.lists_axioms:
                 self.basis(unit.file, basis)
@@ -337,7 +339,7 @@ def _count(number: int, what: str) -> str:
 
 def _made_by(unit: Unit, word: str) -> int:
     """How many commands of a kind made what they are for."""
+    if unit.recalled is not None:
+        return unit.made[word]
     numbers = [number for number, command in enumerate(unit.file.commands) if command.word == word and command.is_public]
-    if unit.recalled is not None:  # All was accepted.
-        return len(numbers)
     return sum(bool(entry and isinstance(entry.report, Made)) for entry in map(unit.file.entry, numbers))

@@ -34,7 +34,8 @@ class Unit:
     """A file that is to be checked, and those that it imports, in order. `failure` says why nothing can be said of it.
 
     Units of one `group` hang together by imports, and all fit into one server; a unit without one may be taken by any.
-    `recalled` is what there was to say of it when all of it was accepted before, where it isn't run again.
+    `recalled` is what there was to say of it when all of it was accepted before, where it isn't run again; `made` is then how many commands of a
+    kind made what they are for.
     """
 
     file: File
@@ -44,15 +45,16 @@ class Unit:
     failure: Optional[str] = None
     group: Optional[int] = None
     recalled: Optional[List[Finding]] = None
+    made: Dict[str, int] = field(default_factory=dict)
     done: threading.Event = field(default_factory=threading.Event)
 
     def __post_init__(self) -> None:
         self.files = set(self.imports + [self.file])
-        self._commands = sum(len(file.commands) for file in self.files)
+        self._commands = sum(len(file.cut.commands) for file in self.files)
 
     def cost(self, standing: Set[File]) -> int:
         """How many commands a server has to run in which some files stand already."""
-        return self._commands - sum(len(file.commands) for file in standing if file in self.files)
+        return self._commands - sum(len(file.cut.commands) for file in standing if file in self.files)
 
 
 class Pool:
@@ -67,7 +69,9 @@ class Pool:
         self._threads = [threading.Thread(target=_Worker(self).run, daemon=True) for _ in range(number)]
 
     def start(self) -> None:
-        """Begins."""
+        """Begins, where all files are read: no two workers read one at once."""
+        for unit in self.waiting:
+            unit.file.notation
         for thread in self._threads:
             thread.start()
 
@@ -159,7 +163,7 @@ class _Worker:
                 unknown.append(where + ": hol_serve ended, or had no memory")
 
         self.unanswered += 1
-        self.session.ask(protocol.line({"op": "basis", "theory": unit.file.theory.name, "name": name}), answer)
+        self.session.ask(protocol.line({"op": "basis", "theory": unit.file.name, "name": name}), answer)
 
 
 def joined(standing: List[File], files: List[File]) -> List[File]:
@@ -182,7 +186,7 @@ def units(files: Dict[str, List[File]]) -> List[Unit]:
     """The files of each project, in order, with what each imports."""
     made: List[Unit] = []
     for root, own in files.items():
-        by_name = {file.theory.name: file for file in own}
+        by_name = {file.name: file for file in own}
         fresh = [Unit(file, root, graph.all_imports(file, by_name)) for file in own]
         _group(fresh, len(made))
         made += fresh

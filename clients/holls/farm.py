@@ -14,13 +14,14 @@ from typing import Dict, Iterator, List, Sequence
 
 from holls import carried, server
 from holls.checking import Basis, Unit
+from holls.files import File
 from holls.findings import Finding, Severity
 from holls.limits import limited
 from holls.projects import PROJECT_FILE
 
 VARIABLE = "HOLLS_CACHE"
 """The environment variable that names the folder of what is remembered."""
-FORMAT = 2
+FORMAT = 3
 """What is remembered in another form isn't read."""
 LEAST_MEMORY = 512 << 20
 MEGABYTE = 1 << 20
@@ -66,19 +67,26 @@ class Memory:
         self._needs_bases = given.axioms or given.no_axioms
         self._base = self._identity(program) if self._folder else ""
         self._keys: Dict[Unit, str] = {}
+        self._digests: Dict[File, str] = {}
 
     @staticmethod
     def _identity(program: Sequence[str]) -> str:
         """What the program and the checker are, by their files' contents."""
-        own = sorted(Path(__file__).parent.glob("*.py"))
+        folder = Path(__file__).parent
+        own = [path for pattern in ("*.py", "surface/*.py", "packages/*.py") for path in sorted(folder.glob(pattern))]
         return _digest(str(FORMAT), *(_digest_of(Path(path)) for path in [*program, *map(str, own)]))
 
     def _path(self, unit: Unit) -> Path:
         if unit not in self._keys:
-            texts = [text for file in unit.imports + [unit.file] for text in (file.theory.name, file.lines.text)]
-            self._keys[unit] = _digest(self._base, *texts)
+            self._keys[unit] = _digest(self._base, *map(self._digest, unit.imports + [unit.file]))
         key = self._keys[unit]
         return self._folder / key[:2] / (key + ".json")
+
+    def _digest(self, file: File) -> str:
+        """A digest of a file's name and text."""
+        if file not in self._digests:
+            self._digests[file] = _digest(file.name, file.lines.text)
+        return self._digests[file]
 
     def recall(self, units: Sequence[Unit]) -> None:
         """Has those units done that were accepted before."""
@@ -94,12 +102,13 @@ class Memory:
                 return False
             found = [Finding(int(start), int(end), Severity(kind), str(text)) for start, end, kind, text in known["findings"]]
             unit.bases = [Basis(int(line), str(name), tuple(map(str, items))) for line, name, items in bases or ()]
+            unit.made = {"qed": int(known["theorems"]), "new_axiom": int(known["axioms"])}
             unit.recalled = found
             return True
         except (OSError, ValueError, KeyError, TypeError):
             return False
 
-    def keep(self, unit: Unit, said: Sequence[Finding]) -> None:
+    def keep(self, unit: Unit, said: Sequence[Finding], made: Dict[str, int]) -> None:
         """Remembers a unit of which all was accepted."""
         if self._folder is None or unit.recalled is not None or unit.failure or not _is_whole(unit):
             return
@@ -109,7 +118,8 @@ class Memory:
         own = path.with_suffix(".%d" % os.getpid())
         try:
             path.parent.mkdir(parents=True, exist_ok=True)
-            own.write_text(json.dumps({"theory": unit.file.theory.name, "findings": findings, "bases": bases}), encoding="utf-8")
+            kept = {"theory": unit.file.name, "findings": findings, "bases": bases, "theorems": made["qed"], "axioms": made["new_axiom"]}
+            own.write_text(json.dumps(kept), encoding="utf-8")
             os.replace(str(own), str(path))
         except OSError as error:
             print("holls: warning: nothing can be remembered in %s: %s" % (self._folder, error.strerror or error), file=sys.stderr)
@@ -195,7 +205,7 @@ def _stamps(units: Sequence[Unit], folder: str) -> Iterator[str]:
     """The files that say that a unit was accepted: those of several projects apart."""
     roots = list(dict.fromkeys(unit.root for unit in units))
     for unit in units:
-        yield _path(os.path.join(folder, str(roots.index(unit.root)), unit.file.theory.name + ".accepted"))
+        yield _path(os.path.join(folder, str(roots.index(unit.root)), unit.file.name + ".accepted"))
 
 
 def _line(text: str) -> str:

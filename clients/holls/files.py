@@ -23,17 +23,19 @@ def theory_name(path: str) -> str:
 class File:
     """A file. Each command has a place in the theory, unless it is too long or one too many, or declares notation.
 
-    `notation` is what its commands are in notation, by what the files that it imports declare. `blemishes` come from the file alone, `context` from what stands beside it; with `is_shadowed` there is no room for it in the server,
-    or another file is its theory. `imports` are the theories that it imports; those of `refused` are part of a circle, and aren't carried out.
-    `written` is what the module `names` keeps of it, `hints` what `findings` does; `undecoded` says where
-    its bytes are no text any more, and `neighbours` gives the paths of its project.
+    What needs its quotations read (`notation`, `theory`, `blemishes`, and what is told by these) is made when it is asked for the first time behind a
+    change: `notation` is what its commands are in notation, by what the files that it imports declare. `blemishes` come from the file alone,
+    `context` from what stands beside it; with `is_shadowed` there is no room for it in the server, or another file is its theory. `imports` are the
+    theories that it imports; those of `refused` are part of a circle, and aren't carried out. `written` is what the module `names` keeps of it, `hints`
+    what `findings` does; `undecoded` says where its bytes are no text any more, and `neighbours` gives the paths of its project.
     """
 
     def __init__(self, path: str) -> None:
         self.path = path
-        self.theory = Theory(theory_name(path))
-        self._is_named = protocol.is_name(self.theory.name)
-        self.blemishes: List[Blemish] = []
+        self.name = theory_name(path)
+        self._theory = Theory(self.name)
+        self._is_named = protocol.is_name(self.name)
+        self._blemishes: List[Blemish] = []
         self.context: List[Blemish] = []
         self._told: Tuple[List[Blemish], int, Dict[Tuple[int, int], str]] = ([], 0, {})
         self.is_shadowed = False
@@ -43,28 +45,33 @@ class File:
         self.hints: Optional[List[Any]] = None
         self.undecoded: Optional[Blemish] = None
         self.neighbours: Callable[[], Sequence[str]] = lambda: ()
-        self._imported: Mapping[str, Notation] = {}
+        self._notation: Optional[Notation] = None
+        self._imported: Mapping[str, "File"] = {}
+        self._read_by: Mapping[str, Notation] = {}
         self._slots: List[Optional[int]] = []
+        self._starts: List[int] = []
         self.take("")
 
     def take(self, text: str) -> None:
         """Takes the file's text."""
         self.lines = Lines(text)
-        self.hints = None
         self.cut: Cut = cut(text)
         self.import_commands: Dict[str, List[Command]] = {}
         for command in self.cut.commands:
             if command.word == "import" and command.name:
                 self.import_commands.setdefault(command.name, []).append(command)
         self.imports = tuple(self.import_commands)
-        self._read()
+        self._forget()
 
-    def know(self, imported: Mapping[str, Notation]) -> None:
-        """Takes what the files that it imports declare, by the names of their theories."""
-        is_same = imported.keys() == self._imported.keys() and all(imported[name].is_like(self._imported[name]) for name in imported)
+    def know(self, imported: Mapping[str, "File"]) -> None:
+        """Takes the files that it imports, by the names of their theories."""
         self._imported = imported
-        if self.notation.is_expanded_otherwise(self._known()) or not is_same:
-            self._read()
+        if self._notation is None:
+            return
+        known = self._known()
+        is_same = known.keys() == self._read_by.keys() and all(one.is_like(self._read_by[name]) for name, one in known.items())
+        if self._notation.is_expanded_otherwise(known) or not is_same:
+            self._forget()
 
     def copy(self) -> "File":
         """The same file, which no edit of this one changes."""
@@ -73,35 +80,85 @@ class File:
         other.take(self.lines.text)
         return other
 
-    def _read(self) -> None:
-        """Has its commands as they are sent."""
-        self.notation = Notation(self.cut.commands, self._known())
-        self.starts = [command.start for command in self.commands]
-        self.hints = None
-        self._want()
+    @property
+    def notation(self) -> Notation:
+        """What its commands are in notation."""
+        self._read()
+        return self._notation
+
+    @property
+    def theory(self) -> Theory:
+        """The theory that it wants, which is one and the same for all its texts."""
+        self._read()
+        return self._theory
+
+    @property
+    def starts(self) -> List[int]:
+        """Where its commands begin."""
+        self._read()
+        return self._starts
+
+    @property
+    def blemishes(self) -> List[Blemish]:
+        """What is wrong with its form."""
+        self._read()
+        return self._blemishes
+
+    @property
+    def carried_out(self) -> Tuple[str, ...]:
+        """The theories that it imports, those of circles apart."""
+        return tuple(name for name in self.imports if name not in self.refused) if self.refused else self.imports
+
+    def _forget(self) -> None:
+        """Has what needs its quotations read made anew when it is asked for."""
+        self._notation = self.hints = None
 
     def _known(self) -> Dict[str, Notation]:
-        """What the files declare whose import is carried out."""
-        return {name: one for name, one in self._imported.items() if name in self.imports and name not in self.refused}
+        """What the files that it imports are in notation, where these are carried out."""
+        imports = self.carried_out
+        return {name: one.notation for name, one in self._imported.items() if name in imports and one is not self}
+
+    def _read(self) -> None:
+        """Has its commands as they are sent, and before it those of the files that it imports, by a stack of its own."""
+        waiting, seen = [self], {id(self)}
+        while self._notation is None:
+            file = waiting[-1]
+            unread = [one for one in file._imported.values() if one._notation is None and id(one) not in seen]
+            if unread:
+                waiting += unread
+                seen.update(map(id, unread))
+                continue
+            waiting.pop()
+            file._take_notation()
+
+    def _take_notation(self) -> None:
+        """Reads its quotations, where those of the files that it imports are read."""
+        if self._notation is not None:
+            return
+        imports = self.carried_out
+        self._read_by = {name: one._notation for name, one in self._imported.items() if name in imports and one._notation is not None}
+        self._notation = Notation(self.cut.commands, self._read_by)
+        self._starts = [command.start for command in self._notation.commands]
+        self._want()
 
     def refuse(self, imports: Sequence[str]) -> None:
         """Takes which imports aren't carried out, since they are part of a circle."""
         if self.refused != tuple(imports):
             self.refused = tuple(imports)
-            self._read()
+            self._forget()
 
     def _want(self) -> None:
         """Has the theory want the commands. A hidden `oops` ends a failed proof before a command that can't stand in one."""
         cut_off = self.undecoded
-        self.blemishes = [blemish for blemish in self.cut.blemishes if blemish.is_error or not cut_off] + ([cut_off] if cut_off else [])
+        self._blemishes = [blemish for blemish in self.cut.blemishes if blemish.is_error or not cut_off] + ([cut_off] if cut_off else [])
         self._check_name()
         fitting = [not self.is_declaration(number) and self._fits(command) for number, command in enumerate(self.commands)]
         texts = self._texts(fitting, True)
         if len(texts) > protocol.COMMANDS:
             texts = self._texts(fitting, False)
         self._check_number(texts)
-        self.theory.want(texts[:protocol.COMMANDS])
-        self.theory.imports = tuple(name for name in self.imports if name not in self.refused)
+        self._theory.want(texts[:protocol.COMMANDS])
+        self._theory.imports = self.carried_out
 
     @property
     def commands(self) -> List[Command]:
@@ -115,6 +172,7 @@ class File:
 
     def slot(self, number: int) -> Optional[int]:
         """A command's place in the theory."""
+        self._read()
         slot = self._slots[number]
         return slot if slot is not None and slot < protocol.COMMANDS and self.is_sent else None
 
@@ -158,9 +216,9 @@ class File:
         return place <= command.end or not self.lines.text[command.end:place].strip(" ;")
 
     def _fits(self, command: Command) -> bool:
-        if not protocol.is_too_long(self.theory.name, command.text):
+        if not protocol.is_too_long(self.name, command.text):
             return True
-        self.blemishes.append(Blemish(
+        self._blemishes.append(Blemish(
             command.start, command.end, "this command is too long: a request's line has at most %d bytes; split it"
             % protocol.LINE_BYTES, True))
         return False
@@ -182,22 +240,22 @@ class File:
 
     def _sent(self, command: Command) -> str:
         """A command's text, and for an import that isn't to be carried out one that never is: that of the theory itself."""
-        return "import " + self.theory.name if command.word == "import" and command.name in self.refused else command.text
+        return "import " + self.name if command.word == "import" and command.name in self.refused else command.text
 
     def _check_number(self, texts: List[Tuple[str, bool]]) -> None:
         if len(texts) <= protocol.COMMANDS:
             return
         first = self.commands[self._slots.index(protocol.COMMANDS)]
-        self.blemishes.append(Blemish(
+        self._blemishes.append(Blemish(
             first.start, first.end, "a theory has at most %d commands: from here on nothing is checked; split the file"
             % protocol.COMMANDS, True))
 
     def _check_name(self) -> None:
         if self._is_named:
             return
-        self.blemishes.append(self.first_line((
+        self._blemishes.append(self.first_line((
             "the file's name without %s is the theory's, and `%s` can't be one: it has to be a letter or _, then letters, digits, "
-            "_ or ', at most %d, and no reserved word; rename the file" % (SUFFIX, self.theory.name, protocol.NAME_BYTES))))
+            "_ or ', at most %d, and no reserved word; rename the file" % (SUFFIX, self.name, protocol.NAME_BYTES))))
 
     def first_line(self, text: str) -> Blemish:
         """An error that is told of the file as a whole."""

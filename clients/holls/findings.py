@@ -276,7 +276,7 @@ def _misread(file: File, number: int, where: Tuple[int, int], error: Misread) ->
 
 def _declared_by(file: File, written: str) -> str:
     """Words on the theories that declare what is written."""
-    found = [name for name in declaring.theories(file.neighbours(), written) if name != file.theory.name]
+    found = [name for name in declaring.theories(file.neighbours(), written) if name != file.name]
     return "; %s declares it: import it" % " or ".join(found[:3]) if found else ""
 
 

@@ -98,7 +98,7 @@ def _of_refusal(finding: Finding, refusal: protocol.Refusal, file: File, files: 
 
 def _declaring(written: str, file: File, every: Sequence[File]) -> Iterator[Fix]:
     """The theories that declare notation that is none here, to be imported."""
-    by_name = {other.theory.name: other for other in every}
+    by_name = {other.name: other for other in every}
     for name in declaring.theories(file.neighbours(), written):
         if name in by_name and not graph.is_importing(by_name[name], file, by_name):
             place = _import_place(file)
@@ -152,12 +152,12 @@ def _first_goal(number: int, file: File) -> Optional[protocol.Goal]:
 
 def _imports(name: str, kind: str, file: File, every: Sequence[File]) -> Iterator[Fix]:
     """The theories that make a name which doesn't stand, to be imported."""
-    by_name = {other.theory.name: other for other in every}
+    by_name = {other.name: other for other in every}
     for other in every:
         makes = any(one.kind == kind and one.name == name for one in names.written(other))
         if makes and not graph.is_importing(other, file, by_name):
             place = _import_place(file)
-            yield Fix("Import %s, which makes %s" % (other.theory.name, name), place, place, "import %s;;\n" % other.theory.name)
+            yield Fix("Import %s, which makes %s" % (other.name, name), place, place, "import %s;;\n" % other.name)
 
 
 def _theorem(finding: Finding, name: str, file: File, files: Sequence[File], every: Sequence[File]) -> Iterator[Fix]:

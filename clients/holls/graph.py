@@ -14,7 +14,7 @@ Load = Callable[[File, str], Union[File, str]]
 
 def with_imports(files: Sequence[File], load: Load) -> List[File]:
     """The files and all those that they import, those of the same name once. A missing one is told at its import, and so is a circle."""
-    known: Dict[str, File] = {file.theory.name: file for file in files}
+    known: Dict[str, File] = {file.name: file for file in files}
     waiting = list(known.values())
     while waiting:
         file = waiting.pop()
@@ -35,14 +35,14 @@ def share_notation(files: Iterable[File]) -> None:
     """Has each file know what those that it imports declare."""
     by_name: Dict[str, File] = {}
     for file in files:
-        by_name.setdefault(file.theory.name, file)
+        by_name.setdefault(file.name, file)
     for file in _in_order(by_name.values(), by_name, _carried_out):
         know_imports(file, by_name)
 
 
 def know_imports(file: File, by_name: Dict[str, File]) -> None:
     """Has a file know what those that it imports declare."""
-    file.know({name: by_name[name].notation for name in file.theory.imports if name in by_name})
+    file.know({name: by_name[name] for name in file.carried_out if name in by_name})
 
 
 def _refuse_circles(by_name: Dict[str, File]) -> None:
@@ -66,11 +66,11 @@ def _parts(by_name: Dict[str, File], importers: Dict[str, List[str]]) -> Dict[st
     """
     parts: Dict[str, str] = {}
     for file in reversed(_in_order(by_name.values(), by_name, _written)):
-        waiting = [file.theory.name]
+        waiting = [file.name]
         while waiting:
             name = waiting.pop()
             if name not in parts:
-                parts[name] = file.theory.name
+                parts[name] = file.name
                 waiting += importers.get(name, [])
     return parts
 
@@ -109,7 +109,7 @@ def tell_import(file: File, name: str, words: str) -> None:
 
 def ordered(files: Sequence[File]) -> List[File]:
     """The files, each after those that it imports."""
-    return _in_order(files, {file.theory.name: file for file in files}, _carried_out)
+    return _in_order(files, {file.name: file for file in files}, _carried_out)
 
 
 def all_imports(file: File, by_name: Dict[str, File]) -> List[File]:
@@ -132,7 +132,7 @@ def _written(file: File) -> Sequence[str]:
 
 
 def _carried_out(file: File) -> Sequence[str]:
-    return file.theory.imports
+    return file.carried_out
 
 
 def _in_order(files: Iterable[File], by_name: Dict[str, File], imports: Callable[[File], Sequence[str]]) -> List[File]:
@@ -140,8 +140,8 @@ def _in_order(files: Iterable[File], by_name: Dict[str, File], imports: Callable
     order: List[File] = []
     seen: Set[str] = set()
     for first in files:
-        stack = [] if first.theory.name in seen else [(first, iter(imports(first)))]
-        seen.add(first.theory.name)
+        stack = [] if first.name in seen else [(first, iter(imports(first)))]
+        seen.add(first.name)
         while stack:
             file, names = stack[-1]
             name = next((name for name in names if name in by_name and name not in seen), None)

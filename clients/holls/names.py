@@ -49,7 +49,7 @@ class Known:
     @property
     def origin(self) -> str:
         """The theory that makes it."""
-        return self.file.theory.name if self.file else "the prelude"
+        return self.file.name if self.file else "the prelude"
 
     def shown_in(self, view: View) -> str:
         """Its statement, type or expression, in the notation of a view."""
@@ -146,7 +146,7 @@ def visible(files: Sequence[File], file: File, place: Optional[int] = None) -> L
     """The names that stand at a place of a file, or at its end: the nearest first. Of a given-up proof there is none."""
     own = [one for one in written(file) if place is None or file.commands[one.last].end < place]
     found = [_known(file, one) for one in reversed(own) if file.commands[one.last].text != "oops"]
-    by_name = {other.theory.name: other for other in files}
+    by_name = {other.name: other for other in files}
     for other in reversed(graph.all_imports(file, by_name)):
         found += [_known(other, one) for one in reversed(written(other)) if other.commands[one.last].text != "oops"]
     return found + PRELUDE
@@ -176,7 +176,7 @@ def place_of_name(command: Command, name: str) -> Tuple[int, int]:
 def uses(files: Sequence[File], target: Known) -> Iterator[Tuple[File, int, int]]:
     """Where a name is used, and made, in the files that know it."""
     pattern = re.compile(r"(?<![A-Za-z0-9_'])" + re.escape(target.name) + r"(?![A-Za-z0-9_'])")
-    by_name: Dict[str, File] = {file.theory.name: file for file in files}
+    by_name: Dict[str, File] = {file.name: file for file in files}
     for file in files:
         if target.file is not None and file is not target.file and target.file not in graph.all_imports(file, by_name):
             continue

@@ -51,7 +51,7 @@ class Completer:
         file = File(session.theory.name + SUFFIX)
         text = session.text.rstrip() + "\n"
         file.take(text + typed + ("`" if typed.count("`") % 2 else ""))
-        graph.know_imports(file, {**session.theory.project.files, file.theory.name: file})
+        graph.know_imports(file, {**session.theory.project.files, file.name: file})
         files = list(session.theory.project.files.values()) + [file]
         found = completion.at(files, [], file, len(text) + len(typed))
         return [item["label"] for item in sorted(found, key=lambda item: item["sortText"])]

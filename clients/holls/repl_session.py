@@ -45,7 +45,7 @@ class Session:
     def __init__(self, prover: Prover, projects: Sequence[Project], file: Optional[File] = None) -> None:
         self.prover, self.projects = prover, list(projects)
         project = next((one for one in self.projects if file and file in one.files.values()), None)
-        self.theory = project.text(file.lines.text, file.theory.name) if project and file else Project(prover).text("", NAME)
+        self.theory = project.text(file.lines.text, file.name) if project and file else Project(prover).text("", NAME)
         self.states: List[State] = []
         self.saved = self.theory.text
         self._before: List[Tuple[Theory, List[State]]] = []
@@ -237,7 +237,7 @@ class Session:
         names = given[1:] if given[:1] == ["with"] else given
         file = File(self.theory.name + SUFFIX)
         file.take(self.text)
-        by_name = {**self.theory.project.files, file.theory.name: file}
+        by_name = {**self.theory.project.files, file.name: file}
         graph.know_imports(file, by_name)
         if self._searcher is None:
             self._searcher = Warm(server.find(self.prover.program))

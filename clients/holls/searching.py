@@ -87,7 +87,7 @@ def _standing(units: Sequence[Unit], program: List[str], seconds: int) -> Iterat
 def _ask(session: Session, events: "queue.Queue[object]", file: File) -> Dict[str, str]:
     """The statements of the theorems that stand at a file's end, by their names."""
     said: List[object] = []
-    session.ask(protocol.line({"op": "theorems", "theory": file.theory.name}), said.append)
+    session.ask(protocol.line({"op": "theorems", "theory": file.name}), said.append)
     while not said and not session.failure:
         try:
             session.hear(events.get(timeout=session.deadline()))

@@ -154,7 +154,7 @@ class Notation:
             placed = replacing.translated(found, word, self.lists, lambda: self._course.behind(self.commands))
             self.has_packages = self.has_packages or placed is not found
             found = placed
-            if found.segments is not None or found.error is not None:
+            if found.is_changed:
                 made = Sent(found.text, command.start, command.end, command.marks, command, found)
             if word in _NAMING:
                 self._take_names(number, made)

@@ -25,7 +25,7 @@ SYMBOLS = {
 """Symbols that may stand in a file for the notation's own, and for operators that theories declare."""
 _OF_OPERATORS = frozenset("∈∪∩∖⊆⊂∅≤≥×∘")
 
-REMEMBERED = 4096
+REMEMBERED = 16_384
 """Of so many commands' texts what they say is remembered."""
 
 _MARKS = re.compile(r"\(\*|\*\)|;;")
@@ -102,9 +102,10 @@ class Command:
 @lru_cache(REMEMBERED)
 def _words(text: str) -> Tuple[str, str]:
     """A command's first word and its second one, or empty strings. A text that is edited has nearly all its commands again and again."""
-    first = _WORD.match(text)
-    words = _WORD.findall(text.split("`")[0])
-    return first.group() if first else "", words[1] if len(words) > 1 else ""
+    first = _WORD.search(text)
+    end = text.find("`")
+    second = _WORD.search(text, first.end(), len(text) if end < 0 else end) if first else None
+    return first.group() if first and not first.start() else "", second.group() if second else ""
 
 
 @dataclass(frozen=True)

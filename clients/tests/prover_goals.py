@@ -70,9 +70,9 @@ class Library:
         self.scope = scope.Scope()
         every = theories()
         for file in every:
-            self.asker.add(file.theory.name, [entry.sent for entry in file.theory.entries])
+            self.asker.add(file.name, [entry.sent for entry in file.theory.entries])
             self.scope.add_file(file)
-        self.asker.copy(["import " + file.theory.name for file in every])
+        self.asker.copy(["import " + file.name for file in every])
         self.count = self.asker.count
         Knowledge(self.scope)
         self._cores = {name: _core(said) for name, said in self.scope.theorems.items()}

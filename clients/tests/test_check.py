@@ -300,7 +300,7 @@ class Scheduling(unittest.TestCase):
         for name, text in (("A", proofs(9)), ("B", "import A;;"), ("C", proofs(1)), ("D", "import C;; import A;; qed;;")):
             files[name].take(text)
         units = checking.units({"here": list(files.values())})
-        self.assertEqual([[file.theory.name for file in unit.imports] for unit in units], [[], ["A"], [], ["C", "A"]])
+        self.assertEqual([[file.name for file in unit.imports] for unit in units], [[], ["A"], [], ["C", "A"]])
         pool = checking.Pool(units, [], 1, False)
         self.assertEqual(pool.take(self, "", set()).file, files["C"])
         self.assertEqual(pool.take(self, "here", {files["A"]}).file, files["A"])

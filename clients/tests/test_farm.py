@@ -1,5 +1,7 @@
 """`holls check` for many theories: so many programs at once, what is remembered, and the plan for Ninja, over the fake server."""
 
+import argparse
+import io
 import json
 import os
 import pathlib
@@ -8,7 +10,10 @@ import subprocess
 import tempfile
 import time
 import unittest
+from contextlib import redirect_stdout
+from unittest.mock import patch
 
+from holls import check, files
 from tests.helpers import BUILT, HOLLS, PYTHON, ROOT, SECONDS, fake, proofs
 
 
@@ -56,6 +61,20 @@ class Farm(unittest.TestCase):
         self.assertEqual(self.asked(), {"A", "B", "C"})
         self.assertEqual(self.check(environment={"HOLLS_CACHE": str(self.folder / "kept")})[0], 0)
         self.assertEqual(self.asked(), set())
+
+    def test_of_what_is_remembered_no_quotation_is_read(self):
+        self.write(A="notation num Z I;;\n" + proofs(2), B="import A;;\ng B `0 = 0`;; e REFL_TAC;; qed;;")
+        words = argparse.ArgumentParser()
+        check.add_words(words)
+        given = words.parse_args(["--server", self.program, "--cache", str(self.folder / "kept"), str(self.theories)])
+        said, numbers = [], []
+        for _ in range(2):
+            with patch.object(files, "Notation", wraps=files.Notation) as notation, redirect_stdout(io.StringIO()) as output:
+                self.assertEqual(check.main(given), 0)
+            said.append(output.getvalue())
+            numbers.append(notation.call_count)
+        self.assertEqual(said[1], said[0])
+        self.assertEqual(numbers, [2, 0])
 
     def test_what_is_wrong_is_not_remembered(self):
         self.write(A="g A `p = q`;;\ne REFL_TAC;;\nqed;;\n", B="import A;;", C="g C `c = c`;;\ne REFL_TAC;;\n", D="import Nothing;;")

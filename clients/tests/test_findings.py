@@ -42,10 +42,10 @@ WRONG = (
 def reports(file):
     """The reports on the commands of a file, by their places in the theory."""
     documents = Documents()
-    documents.new_theory({"name": file.theory.name, "at": 0})
+    documents.new_theory({"name": file.name, "at": 0})
     for at, entry in enumerate(file.theory.entries):
-        documents.insert({"theory": file.theory.name, "at": at, "text": entry.text})
-    found = [documents.report({"theory": file.theory.name, "at": at}) for at in range(len(file.theory.entries))]
+        documents.insert({"theory": file.name, "at": at, "text": entry.text})
+    found = [documents.report({"theory": file.name, "at": at}) for at in range(len(file.theory.entries))]
     return [protocol.reply(json.dumps(report).encode()) for report in found]
 
 
@@ -115,7 +115,7 @@ class WhileReportsCome(unittest.TestCase):
             theory.settle()
             now = [findings(file) for file in files]
             for file, were, are in zip(files, before, now):
-                self.assertEqual([finding for finding in were if finding not in are], [], (when, file.theory.name, theory.name, at))
+                self.assertEqual([finding for finding in were if finding not in are], [], (when, file.name, theory.name, at))
             before = now
         self.assertTrue(all(unknown(file) == [] for file in files), when)
 

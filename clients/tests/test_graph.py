@@ -54,14 +54,14 @@ class Graphs(unittest.TestCase):
     def test_the_shortest_circle_is_told(self):
         given = files({"A": ["B", "C"], "B": ["C"], "C": ["A"], "D": ["D", "A"]})
         graph.with_imports(given, lambda _, name: "there is none")
-        circles = {file.theory.name: sorted(blemish.text.split(": ")[1].split(";")[0] for blemish in file.context) for file in given}
+        circles = {file.name: sorted(blemish.text.split(": ")[1].split(";")[0] for blemish in file.context) for file in given}
         self.assertEqual(circles, {
             "A": ["A imports B imports C imports A", "A imports C imports A"], "B": ["A imports B imports C imports A"], "C": ["A imports C imports A"],
             "D": ["D imports D"]})
 
     def test_files_that_hang_together_are_checked_by_one_server_where_it_holds_them(self):
         made = checking.units({"": graph.ordered(graph.with_imports(files(dict(chain(5), A=["B"], B=[])), lambda _, name: "there is none"))})
-        groups = {unit.file.theory.name: unit.group for unit in made}
+        groups = {unit.file.name: unit.group for unit in made}
         self.assertEqual(len({groups["F%03d" % at] for at in range(5)}), 1)
         self.assertEqual(groups["A"], groups["B"])
         self.assertNotEqual(groups["A"], groups["F000"])

@@ -36,10 +36,10 @@ class InAProject(unittest.TestCase):
         """Takes the fake server's reports, as far as it runs the commands."""
         documents = Documents()
         for place, file in enumerate(self.files):
-            documents.new_theory({"name": file.theory.name, "at": place})
+            documents.new_theory({"name": file.name, "at": place})
             for at, entry in enumerate(file.theory.entries):
-                documents.insert({"theory": file.theory.name, "at": at, "text": entry.text})
-                entry.report = protocol.reply(json.dumps(documents.report({"theory": file.theory.name, "at": at})).encode())
+                documents.insert({"theory": file.name, "at": at, "text": entry.text})
+                entry.report = protocol.reply(json.dumps(documents.report({"theory": file.name, "at": at})).encode())
 
     def labels(self, before):
         """The likeliest labels behind a text in the document, and all of them with their details."""

@@ -185,7 +185,7 @@ class Shown(unittest.TestCase):
         self.assertEqual(at(self.place("< 3")), ("lt", "<", "A"))
         self.assertEqual(at(self.place("x + 2"))[:2], ("x", "x"))
         self.assertEqual(at(self.place("double 2")), ("double", "double", "B"))
-        uses = [(file.theory.name, file.lines.text[start:end]) for file, start, end in names.uses(
+        uses = [(file.name, file.lines.text[start:end]) for file, start, end in names.uses(
             list(self.files.values()), names.find(list(self.files.values()), self.file, self.place("g Y"), "add", (names.CONSTANT,)))]
         self.assertEqual(uses, [("A", "add"), ("B", "+"), ("B", "+")])
         question = hovering.question(self.file, lookup.word(list(self.files.values()), self.file, self.place("x + 2")))

@@ -23,7 +23,7 @@ def library(*names):
     """What stands at the end of some files of theories/ and of those that they import."""
     found = scope.Scope()
     for file in prover_goals.theories():
-        if not names or file.theory.name in names:
+        if not names or file.name in names:
             found.add_file(file)
     return found
 

@@ -361,9 +361,9 @@ class HolLight(unittest.TestCase):
         """The lines that put the library into a server, and how many theories it has."""
         files, lines = theories(), []
         for at, file in enumerate(files):
-            lines.append({"op": "new_theory", "name": file.theory.name, "at": at})
+            lines.append({"op": "new_theory", "name": file.name, "at": at})
             texts = [entry.text for entry in file.theory.entries]
-            lines += [{"op": "insert", "theory": file.theory.name, "at": number, "text": text} for number, text in enumerate(texts)]
+            lines += [{"op": "insert", "theory": file.name, "at": number, "text": text} for number, text in enumerate(texts)]
         return lines, len(files)
 
 
@@ -375,7 +375,7 @@ class ShownByTheProgram(unittest.TestCase):
         for line in lines:
             asked += [line] + ([dict(op="report", theory=line["theory"], at=line["at"])] if line["op"] == "insert" else [])
         replies = asking(asked)
-        commands = {(file.theory.name, file.slot(at)): (file, at) for file in theories() for at in range(len(file.commands))}
+        commands = {(file.name, file.slot(at)): (file, at) for file in theories() for at in range(len(file.commands))}
         number = 0
         for request, reply in zip(asked, replies):
             if request["op"] != "report" or "made" in reply and any(made.startswith("thm ") for made in reply["made"][1:]):

@@ -61,7 +61,7 @@ class Project:
         return made
 
     def _take(self, files: Sequence[File]) -> None:
-        self.files: Dict[str, File] = {file.theory.name: file for file in files}
+        self.files: Dict[str, File] = {file.name: file for file in files}
         self._theories: Dict[str, Theory] = {}
         self._layers: Dict[str, Layer] = {}
         self._scripts: Dict[str, Dict[str, Tuple[str, ...]]] = {}
@@ -88,7 +88,7 @@ class Project:
         for wanted in file.imports:
             if wanted not in self.files and not self.take_of_library(wanted):
                 graph.tell_import(file, wanted, "there is no theory %s in this project" % wanted)
-            elif any(other.theory.name == name for other in graph.ordered_from(self.files[wanted], self.files)):
+            elif any(other.name == name for other in graph.ordered_from(self.files[wanted], self.files)):
                 graph.tell_import(file, wanted, "imports go in a circle here: %s imports a theory of the name %s" % (wanted, name))
                 refused.append(wanted)
         file.refuse(refused)
@@ -99,35 +99,35 @@ class Project:
         """Takes a theory of the library, with what it imports, where the project has none of the name. Whether the library has one."""
         for path in in_library(name):
             for file in (one for own in _roots([path]).values() for one in own):
-                self.files.setdefault(file.theory.name, file)
+                self.files.setdefault(file.name, file)
             return True
         return False
 
     def imports(self, file: File) -> List[File]:
         """What a file imports, also by way of others, in order."""
         known = dict(self.files)
-        known[file.theory.name] = file
+        known[file.name] = file
         return graph.all_imports(file, known)
 
     def layer(self, file: File) -> Layer:
         """A file as it is to stand, kept where it is one of the project's."""
-        if self.files.get(file.theory.name) is not file:
+        if self.files.get(file.name) is not file:
             return _layer(file)
-        if file.theory.name not in self._layers:
-            self._layers[file.theory.name] = _layer(file)
-        return self._layers[file.theory.name]
+        if file.name not in self._layers:
+            self._layers[file.name] = _layer(file)
+        return self._layers[file.name]
 
     def scripts(self, file: File) -> Dict[str, Tuple[str, ...]]:
         """The commands of a file by the theorems that they make, kept."""
-        if file.theory.name not in self._scripts:
-            self._scripts[file.theory.name] = _scripts(file, len(file.commands))
-        return self._scripts[file.theory.name]
+        if file.name not in self._scripts:
+            self._scripts[file.name] = _scripts(file, len(file.commands))
+        return self._scripts[file.name]
 
     def words(self, file: File) -> Dict[str, Tuple[str, ...]]:
         """By the theorems that a file makes the names in their commands, kept."""
-        if file.theory.name not in self._words:
-            self._words[file.theory.name] = _words(self.scripts(file))
-        return self._words[file.theory.name]
+        if file.name not in self._words:
+            self._words[file.name] = _words(self.scripts(file))
+        return self._words[file.name]
 
 
 def _words(scripts: Dict[str, Tuple[str, ...]]) -> Dict[str, Tuple[str, ...]]:
@@ -154,7 +154,7 @@ def _roots(paths: Sequence[str]) -> Dict[str, List[File]]:
 
 
 def _layer(file: File) -> Layer:
-    return Layer(file.theory.name, file.theory.imports, tuple(entry.sent for entry in file.theory.entries))
+    return Layer(file.name, file.theory.imports, tuple(entry.sent for entry in file.theory.entries))
 
 
 class Theory:
@@ -167,7 +167,7 @@ class Theory:
     @property
     def name(self) -> str:
         """The theory's name."""
-        return self.file.theory.name
+        return self.file.name
 
     @property
     def commands(self) -> Tuple[Command, ...]:

@@ -85,7 +85,7 @@ def main(given: argparse.Namespace) -> int:
     except (OSError, ValueError, NoHolLight, check.CannotCheck, server.NoServer, Silent) as error:
         print("holls: %s" % error, file=sys.stderr)
         return BROKEN
-    for path in write(outcome.brought, [unit.file.theory.name for unit in units], Path(given.output)):
+    for path in write(outcome.brought, [unit.file.name for unit in units], Path(given.output)):
         print("%s is written" % path)
     for name, why in outcome.missing.items():
         print("missing: %s: %s" % (name, why))
@@ -118,7 +118,7 @@ class Importer:
         self.scope = Scope()
         for unit in units:
             self.scope.add_file(unit.file)
-        self.imports = ["import " + unit.file.theory.name for unit in units]
+        self.imports = ["import " + unit.file.name for unit in units]
         self.sources: Dict[str, str] = {}
         self.chunks = 0
         self.standing: List[str] = []
@@ -130,7 +130,7 @@ class Importer:
         self.asker = Asker(self.program, _START_SECONDS)
         try:
             for unit in self.units:
-                self.asker.add(unit.file.theory.name, [entry.sent for entry in unit.file.theory.entries])
+                self.asker.add(unit.file.name, [entry.sent for entry in unit.file.theory.entries])
             self._copy()
             self.replay = Replay(self.record, self.translator, self.scope, self.asker)
             self.deriving = Deriving(self.record, self.translator, self.scope, self.asker)

@@ -200,7 +200,7 @@ class Answers:
         if not more:
             more.append(None)
             server.session.ask_beside(
-                "holls_types", ["import " + document.file.theory.name, question], lambda reply: more.append(_type(reply)))
+                "holls_types", ["import " + document.file.name, question], lambda reply: more.append(_type(reply)))
         return len(more) > 1
 
     def _goals_there(self, document: Document, place: int) -> Optional[str]:
@@ -242,7 +242,7 @@ class Answers:
             if keep is not None:
                 keep.extend(items or ["unknown"])
 
-        self.bridge.server_of(document).session.ask(protocol.line({"op": "basis", "theory": document.file.theory.name, "name": name}), answer)
+        self.bridge.server_of(document).session.ask(protocol.line({"op": "basis", "theory": document.file.name, "name": name}), answer)
 
     def _definition(self, _: Any, params: Params) -> Answered:
         document = self.document(params)
@@ -307,7 +307,7 @@ class Answers:
     def _completion(self, _: Any, params: Params) -> Answered:
         document = self.document(params)
         files = self._files(document)
-        theories = list(dict.fromkeys([file.theory.name for file in files] + document.project.importable()))
+        theories = list(dict.fromkeys([file.name for file in files] + document.project.importable()))
         place = document.place(params["position"])
         known = goals.state(document.file, document.file.number_at(place))
         free = known.goals.goals[0].free if isinstance(known, goals.State) and known.goals and known.goals.goals else ()

@@ -34,7 +34,7 @@ def at(files: Sequence[File], theories: Iterable[str], file: File, place: int, f
         own = [_own(name, entry, KEYWORD, "0") for name, entry in manual.COMMANDS.items()]
         return own + [_own(name, entry, KEYWORD, "1") for name, entry in (*manual.PACKAGES.items(), *manual.DECLARATIONS.items())]
     if command.word == "import":
-        return [_item(name, MODULE, "a theory", "0") for name in theories if name != file.theory.name]
+        return [_item(name, MODULE, "a theory", "0") for name in theories if name != file.name]
     visible = _once(names.visible(files, file, command.start))
     view = View.of(file, file.number_at(place))
     if is_quoted(command, start):

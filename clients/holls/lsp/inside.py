@@ -90,7 +90,7 @@ def _commands(file: File, number: int, begin: str) -> List[str]:
     """The commands that come to the beginning of a step."""
     first = file.proof_begin(number)
     statement = file.entry(first).sent
-    made = ["import " + file.theory.name, "g %s %s" % (_THEORY, statement[statement.index("`"):] if "`" in statement else "")]
+    made = ["import " + file.name, "g %s %s" % (_THEORY, statement[statement.index("`"):] if "`" in statement else "")]
     for at in range(first + 1, number):
         entry = file.entry(at)
         if entry and isinstance(entry.report, Goals):

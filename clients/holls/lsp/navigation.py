@@ -46,7 +46,7 @@ class Navigation:
 
     def theory(self, document: Document, files: Sequence[File], name: str) -> Optional[File]:
         """The file of a theory of the document's project."""
-        found = next((file for file in files if file.theory.name == name), None)
+        found = next((file for file in files if file.name == name), None)
         return found or self.workspace.look(document.project, name)
 
     def references(self, document: Document, files: Sequence[File], place: int, with_definition: bool) -> List[Dict[str, Any]]:

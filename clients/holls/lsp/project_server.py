@@ -45,7 +45,7 @@ class ProjectServer:
         """The files in the order in which they are run: what is worked on and its imports come first."""
         if self._first not in self.files:
             return self.files
-        first = graph.ordered_from(self._first, {file.theory.name: file for file in self.files})
+        first = graph.ordered_from(self._first, {file.name: file for file in self.files})
         return first + [file for file in self.files if file not in first]
 
     def work_on(self, file: File) -> None:

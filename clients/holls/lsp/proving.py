@@ -185,7 +185,7 @@ def _prepare(warm: Warm, imports: List[File]) -> None:
 
 
 def _imports(document: "Document", files: List[File]) -> List[File]:
-    by_name = {file.theory.name: file for file in files}
+    by_name = {file.name: file for file in files}
     return [other.copy() for other in graph.all_imports(document.file, by_name)]
 
 

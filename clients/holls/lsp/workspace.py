@@ -135,7 +135,7 @@ class Workspace:
         """All files of a project: those that are open or sent, and the others on disk."""
         known = {os.path.abspath(file.path): file for file in sent if self.projects.of(file.path) is project}
         known.update((os.path.abspath(document.file.path), document.file) for document in self.documents.values() if document.project is project)
-        names = {file.theory.name for file in known.values()} if isinstance(self.projects, OneProject) else ()
+        names = {file.name for file in known.values()} if isinstance(self.projects, OneProject) else ()
         others = [self._at(path) for path in project.paths() if os.path.abspath(path) not in known and files.theory_name(path) not in names]
         found = list(known.values()) + [file for file in others if file is not None]
         graph.share_notation(found)
@@ -170,7 +170,7 @@ class Workspace:
         del found[protocol.THEORIES:]
         for file in found:
             file.neighbours = project.with_library
-        edits = {file.theory.name: (id(file), file.theory) for file in found}
+        edits = {file.name: (id(file), file.theory) for file in found}
         for file in found:
             imported = [edits[name] for name in file.theory.imports if name in edits]
             self._forget(file, tuple((number, theory.edits) for number, theory in imported))
@@ -181,7 +181,7 @@ class Workspace:
         owners: Dict[Tuple[str, str], File] = {}
         for document in self.documents.values():
             file, root = document.file, document.project.key
-            owner = owners.setdefault((root, file.theory.name), file)
+            owner = owners.setdefault((root, file.name), file)
             is_over = owner is file and sum(other == root for other, _ in owners) > protocol.THEORIES
             file.context, file.is_shadowed = [], owner is not file or is_over
             if document.project.error:
@@ -190,7 +190,7 @@ class Workspace:
                 told = "a server holds %d theories, and as many files are open before this one: close some" % protocol.THEORIES
                 file.context.append(file.first_line(told))
             elif owner is not file:
-                told = "the open file %s is the theory %s already: close it, or rename one" % (owner.path, file.theory.name)
+                told = "the open file %s is the theory %s already: close it, or rename one" % (owner.path, file.name)
                 file.context.append(file.first_line(told))
         return [document for document in self.documents.values() if document.file.is_sent]
 

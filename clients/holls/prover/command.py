@@ -178,10 +178,10 @@ def others(file: File, imports: Sequence[File], paths: Optional[Sequence[str]] =
         every = [one for files in check.ordered(found[:_MOST_OTHERS]).values() for one in files]
     except check.CannotCheck:
         return []
-    by_name = {one.theory.name: one for one in every}
-    known = {one.theory.name for one in imports} | {file.theory.name}
-    return [one for one in every if one.is_sent and one.theory.name not in known
-            and all(other.theory.name != file.theory.name for other in graph.all_imports(one, by_name))]
+    by_name = {one.name: one for one in every}
+    known = {one.name for one in imports} | {file.name}
+    return [one for one in every if one.is_sent and one.name not in known
+            and all(other.name != file.name for other in graph.all_imports(one, by_name))]
 
 
 def in_notation_at(file: File, number: int, step: str) -> str:

@@ -44,7 +44,7 @@ class Scope:
             if before is not None and last >= before:
                 break
             command = file.commands[first]
-            is_left_out = command.word == "deftac" and file.theory.name == ARITHMETIC
+            is_left_out = command.word == "deftac" and file.name == ARITHMETIC
             if is_left_out or command.word == "g" and file.commands[last].text != "qed":
                 continue
             try:

@@ -136,7 +136,7 @@ class Warm:
 
     def _ready(self, files: Sequence[File]) -> Asker:
         """A server in which theories stand; those that stood there before, and are the same still, aren't run again."""
-        wanted = {file.theory.name: [entry.sent for entry in file.theory.entries] for file in files[:MOST_THEORIES]}
+        wanted = {file.name: [entry.sent for entry in file.theory.entries] for file in files[:MOST_THEORIES]}
         if self._asker is None:
             self._asker, self._standing = Asker(self.program, _START_SECONDS), []
         same = next((at for at, (name, texts) in enumerate(self._standing) if wanted.get(name, texts) != texts), len(self._standing))
@@ -154,7 +154,7 @@ class Warm:
 
     def _imported(self, files: Sequence[File]) -> Scope:
         """What some files make. Each is read once, as long as it and those before it are the same."""
-        key = tuple((file.theory.name, hash(tuple(entry.sent for entry in file.theory.entries))) for file in files)
+        key = tuple((file.name, hash(tuple(entry.sent for entry in file.theory.entries))) for file in files)
         if key not in self._scopes:
             made = self._imported(files[:-1]).copy() if files else Scope()
             if files:
@@ -175,7 +175,7 @@ class Warm:
             found[ARITHMETIC] = None
         if not request.is_arithmetic:
             every = self._imported(list(request.imports) + list(request.others))
-            theory = {one.name: file.theory.name for file in request.others for one in names_of.written(file) if one.name in every.theorems}
+            theory = {one.name: file.name for file in request.others for one in names_of.written(file) if one.name in every.theorems}
             premises = Premises([every.fact(name) for name in every.theorems], frozenset(reading.PRELUDE))
             found.update(dict.fromkeys(theory[name] for name in premises.chosen(terms, _CHOSEN) if name in theory))
         return list(found)[:_MOST_NEW]
@@ -238,15 +238,15 @@ class _Place(NamedTuple):
 
 def _has_arithmetic(request: Request) -> bool:
     """Whether the theory of arithmetic could be imported."""
-    return any(file.theory.name == ARITHMETIC for file in request.others)
+    return any(file.name == ARITHMETIC for file in request.others)
 
 
 def _behind_imports(names: Sequence[str], request: Request) -> List[File]:
     """The files of some theories and of those that they import, in order."""
     every = list(request.imports) + list(request.others)
-    by_name = {file.theory.name: file for file in every}
-    wanted = {file.theory.name for name in names for file in graph.ordered_from(by_name[name], by_name)}
-    return [file for file in every if file.theory.name in wanted]
+    by_name = {file.name: file for file in every}
+    wanted = {file.name for name in names for file in graph.ordered_from(by_name[name], by_name)}
+    return [file for file in every if file.name in wanted]
 
 
 def _open_goals(asker: Asker, file: File, number: int) -> Tuple[Goals, int]:

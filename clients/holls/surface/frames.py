@@ -40,6 +40,8 @@ Pattern = Union[Variable, Pair]
 
 def names(pattern: Pattern) -> List[str]:
     """The variables of a pattern, from left to right."""
+    if pattern.__class__ is Variable:
+        return [pattern.name]
     found: List[str] = []
     waiting = [pattern]
     while waiting:
@@ -53,10 +55,11 @@ def names(pattern: Pattern) -> List[str]:
 
 def bound_by(reader: "Reader", kind: str, pattern: Pattern, body: Term, start: int) -> Term:
     """A binder of a pattern: of a pair it is UNCURRY of a function of both."""
+    if pattern.__class__ is Variable:
+        return Binder(kind, pattern.name, pattern.type, body, pattern.start, pattern.end, start, body.end)
     for part in _inner_first(pattern):
-        outer = kind if part is pattern and isinstance(part, Variable) else "\\"
-        body = _bound_once(reader, outer, part, body, start)
-    if isinstance(pattern, Pair) and kind != "\\":
+        body = _bound_once(reader, part, body, start)
+    if kind != "\\":
         return Application(Symbol(kind, start, start + len(kind)), body, start, body.end)
     return body
 
@@ -74,9 +77,9 @@ def _inner_first(pattern: Pattern) -> List[Pattern]:
     return found
 
 
-def _bound_once(reader: "Reader", kind: str, part: Pattern, body: Term, start: int) -> Term:
+def _bound_once(reader: "Reader", part: Pattern, body: Term, start: int) -> Term:
     if isinstance(part, Variable):
-        return Binder(kind, part.name, part.type, body, part.start, part.end, start, body.end)
+        return Binder("\\", part.name, part.type, body, part.start, part.end, start, body.end)
     uncurry = reader.table.part("uncurry")
     if uncurry in names(part):
         raise Misread(part.start, part.end, "the variable `%s` hides the constant that `(x,y)` stands for: rename it" % uncurry)
@@ -87,16 +90,15 @@ def _bound_once(reader: "Reader", kind: str, part: Pattern, body: Term, start: i
 class Frame:
     """What waits for a term. An open one ends wherever a bracket around it does; another one at its own tokens alone.
 
-    Infixes that bind looser than `least` don't stand in it by themselves, and `why` says so of one. Its `separators` are no infixes in it.
+    Infixes that bind looser than `least` don't stand in it by themselves, and `why` says so of one. Its `separators` are no infixes in it: the reader
+    gives those around it to a frame that has none of its own.
     """
 
     __slots__ = ("separators",)
     is_open = True
     least = 0
     why = ""
-
-    def __init__(self) -> None:
-        self.separators: Tuple[str, ...] = ()
+    separators: Tuple[str, ...]
 
     def closed(self, reader: "Reader", operand: Term) -> Term:
         """The term that an open frame makes of the operand that it waited for."""
@@ -114,7 +116,6 @@ class Whole(Frame):
     is_open = False
 
     def __init__(self, least: int, why: str, separators: Tuple[str, ...]) -> None:
-        super().__init__()
         self.least, self.why, self.separators = least, why, separators
         self.term: Optional[Term] = None
 
@@ -128,7 +129,6 @@ class Argument(Frame):
     __slots__ = ("function",)
 
     def __init__(self, function: Term) -> None:
-        super().__init__()
         self.function = function
 
     def closed(self, reader: "Reader", operand: Term) -> Term:
@@ -141,7 +141,6 @@ class Not(Frame):
     __slots__ = ("start",)
 
     def __init__(self, start: int) -> None:
-        super().__init__()
         self.start = start
 
     def closed(self, reader: "Reader", operand: Term) -> Term:
@@ -154,7 +153,6 @@ class Infix(Frame):
     __slots__ = ("operator", "left", "head", "at", "until")
 
     def __init__(self, operator: Operator, left: Term, head: Optional[Name], at: int, until: int) -> None:
-        super().__init__()
         self.operator, self.left, self.head, self.at, self.until = operator, left, head, at, until
 
     def closed(self, reader: "Reader", operand: Term) -> Term:
@@ -170,7 +168,7 @@ class Bound(Frame):
     __slots__ = ("kind", "variables", "names", "start")
 
     def __init__(self, kind: str, variables: List[Pattern], bound_names: List[str], start: int) -> None:
-        super().__init__()
+        self.separators = ()
         self.kind, self.variables, self.names, self.start = kind, variables, bound_names, start
 
     def closed(self, reader: "Reader", operand: Term) -> Term:
@@ -186,7 +184,7 @@ class Conditional(Frame):
     __slots__ = ("start", "end", "parts")
 
     def __init__(self, start: int, end: int) -> None:
-        super().__init__()
+        self.separators = ()
         self.start, self.end = start, end
         self.parts: List[Term] = []
 
@@ -212,7 +210,7 @@ class Let(Frame):
     __slots__ = ("start", "end", "patterns", "terms", "names", "is_open")
 
     def __init__(self, reader: "Reader", start: int, end: int) -> None:
-        super().__init__()
+        self.separators = ()
         self.start, self.end, self.is_open = start, end, False
         self.patterns: List[Pattern] = []
         self.terms: List[Term] = []
@@ -252,7 +250,7 @@ class Parenthesis(Frame):
     is_open = False
 
     def __init__(self, start: int) -> None:
-        super().__init__()
+        self.separators = ()
         self.start = start
 
     def token(self, reader: "Reader", operand: Term) -> Term:
@@ -269,7 +267,6 @@ class Elements(Frame):
     is_open = False
 
     def __init__(self, opener: str, start: int) -> None:
-        super().__init__()
         self.opener, self.start = opener, start
         self.elements: List[Term] = []
         self.separator = ";" if opener == "[" else ","
@@ -299,7 +296,7 @@ class Abstraction(Frame):
     is_open = False
 
     def __init__(self, reader: "Reader", start: int, bars: List[int]) -> None:
-        super().__init__()
+        self.separators = ()
         self.start, self.bars = start, bars
         if sum(frame.__class__ is Abstraction for frame in reader.frames) >= MOST_SETS:
             raise Misread(start, start + 1, "over %d sets stand in one another here" % MOST_SETS)

@@ -2,6 +2,7 @@
 
 from __future__ import annotations
 
+from itertools import accumulate
 from typing import Any, List, Optional, Tuple
 
 from holls.surface.tree import PRECEDENCES, Annotation, Application, Binder, Connective, Name, Negation, Symbol, Term, Type
@@ -16,44 +17,42 @@ Segment = Tuple[int, int, int]
 
 
 class PlainWriter:
-    """Writes plain text. `segments` lead from its places back; `deepest` is the number of brackets that were open at most, `tokens` that of tokens."""
+    """Writes plain text. What follows from its parts and from where these come is made when it is asked for."""
 
     def __init__(self) -> None:
-        self.parts: List[str] = []
-        self.segments: List[Segment] = []
-        self.length = self.depth = self.deepest = self.tokens = 0
+        self._written: List[Any] = []  # Of each part its text and the range that it comes from, one after the other: no tuple for each.
 
     @property
     def text(self) -> str:
         """What is written."""
-        return "".join(self.parts)
+        return "".join(self._written[::3])
+
+    def segments(self, offset: int = 0) -> List[Segment]:
+        """What leads back from the places of what is written, where it stands at an offset."""
+        written = self._written
+        return list(zip(accumulate(map(len, written[::3]), initial=offset), written[1::3], written[2::3]))
+
+    def deepest(self) -> int:
+        """The number of brackets that are open at once at most."""
+        changes = ((part == "(") - (part == ")") for part in self._written[::3])
+        return max(accumulate(changes), default=0)
 
     def put(self, text: str, start: int, end: int) -> None:
         """Writes a text that comes from a range."""
-        self.segments.append((self.length, start, end))
-        self.parts.append(text)
-        self.length += len(text)
-        if text == " ":
-            return
-        self.tokens += 1
-        if text == "(":
-            self.depth += 1
-            self.deepest = max(self.deepest, self.depth)
-        elif text == ")":
-            self.depth -= 1
+        self._written += (text, start, end)
 
     def term(self, term: Term, level: int = 0) -> None:
         """Writes a term, between parentheses where it binds looser than the level."""
         waiting: List[Tuple[Any, ...]] = [(term, level)]
-        put = self.put
+        put, written = self.put, self._written
         while waiting:
             item = waiting.pop()
             node = item[0]
             kind = node.__class__
             if kind is str:
-                put(node, item[1], item[2])
+                written += item
             elif kind is Name:
-                put(node.text, node.start, node.end)
+                written += (node.text, node.start, node.end)
             elif kind is Application:
                 self._application(node, item[1], waiting)
             elif kind is Connective:

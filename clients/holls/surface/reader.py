@@ -13,7 +13,7 @@ from holls.surface.errors import Misread
 from holls.surface.frames import Frame, Pattern, Variable
 from holls.surface.table import RIGHT, RUN, Operator, Table
 from holls.surface.tokens import END, NUMBER, SYMBOL, WORD, Token, bars, misread, tokens, unknown
-from holls.surface.tree import ALONE, BINDERS, PRECEDENCES, Annotation, Name, Symbol, Term, Type, applied
+from holls.surface.tree import ALONE, BINDERS, PRECEDENCES, Annotation, Application, Name, Symbol, Term, Type, applied
 from holls.surface.types import TypeReader
 from holls.surface.vocabulary import Vocabulary
 
@@ -41,7 +41,7 @@ class Reader:
         self.bound: Dict[str, int] = {}
         self.is_notation = False
         self.frames: List[Frame] = []
-        self.bars = bars(self.tokens) if table.part("insert") else {}
+        self.bars = bars(self.tokens) if "|" in text and table.part("insert") else {}
 
     # ---- What the frames use
 
@@ -292,7 +292,12 @@ class Reader:
         """Takes an operand: what a bracket around it is where it closes one, or None where another operand has to follow or all is read."""
         if self.frames[-1].__class__ is frames.Argument:
             operand = self.frames.pop().closed(self, operand)
-        kind, text, start, end = self.tokens[self.at]
+        table, found = self.table, self.tokens
+        kind, text, start, end = found[self.at]
+        while kind is WORD and text not in table.reserved and text not in table.words:  # An argument for which no frame has to wait.
+            operand = Application(operand, Name(text, start, end), operand.start, end)
+            self.at += 1
+            kind, text, start, end = found[self.at]
         if self._is_argument(kind, text):
             self._wait(frames.Argument(operand))
             return None

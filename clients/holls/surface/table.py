@@ -68,6 +68,7 @@ class Table:
         self.constants = frozenset((*self.of_constant, *(name for names in self.forms.values() for name in names)))
         self.memory: Dict[object, object] = {}
         self._of_part = {part: name for form, names in forms for part, name in zip(FORMS[form], names)}
+        self._symbols: Optional[FrozenSet[str]] = None
         self._tokens: Optional[Pattern[str]] = None
         self._notation: Optional[Pattern[str]] = None
 
@@ -89,13 +90,19 @@ class Table:
         return self is EMPTY
 
     @property
+    def symbols(self) -> FrozenSet[str]:
+        """The symbols that are tokens."""
+        if self._symbols is None:
+            self._symbols = frozenset(_FIXED).union(one for one in (*self.operators, *self.type_operators) if not _WORD.match(one))
+        return self._symbols
+
+    @property
     def tokens(self) -> Pattern[str]:
-        """One token with the white space before it: as groups a word, a number, a type variable `?0`, a symbol, and any other character."""
+        """One token, as groups the white space before it and the token: a word, a number, a type variable `?0`, a symbol, or any other character."""
         if self._tokens is None:
-            symbols = set(_FIXED) | {one for one in (*self.operators, *self.type_operators) if not _WORD.match(one)}
-            longest_first = sorted(symbols, key=lambda one: (-len(one), one))
+            longest_first = sorted(self.symbols, key=lambda one: (-len(one), one))
             self._tokens = re.compile(
-                r"[ \t\r\n]*(?:([A-Za-z_][A-Za-z0-9_']*)|([0-9]+)|(\?[0-9]+)|(%s)|([^ \t\r\n]))" % "|".join(map(re.escape, longest_first)))
+                r"([ \t\r\n]*)([A-Za-z_][A-Za-z0-9_']*|[0-9]+|\?[0-9]+|%s|[^ \t\r\n])" % "|".join(map(re.escape, longest_first)))
         return self._tokens
 
     @property
@@ -103,9 +110,11 @@ class Table:
         """What only a quotation in notation has: a character that the plain language hasn't, or something that is declared."""
         if self._notation is None:
             every = [one for one in (*self.operators, *self.type_operators) if one != "," and not _WORD.match(one)]
-            symbols = [r"(?<![-=<>/\\])%s(?![-=<>/\\])" % re.escape(one) for one in every if not re.search(_NOT_PLAIN, one)]
-            words = [r"(?<![A-Za-z0-9_'])%s(?![A-Za-z0-9_'])" % word for word in sorted(self.words | self.reserved)]
-            self._notation = re.compile("|".join([_NOT_PLAIN, *symbols, *words]))
+            symbols = "|".join(re.escape(one) for one in every if not re.search(_NOT_PLAIN, one))
+            words = "|".join(sorted(self.words | self.reserved))
+            both = [r"(?<![-=<>/\\])(?:%s)(?![-=<>/\\])" % symbols] if symbols else []
+            both += [r"(?<![A-Za-z0-9_'])(?:%s)(?![A-Za-z0-9_'])" % words] if words else []
+            self._notation = re.compile("|".join([_NOT_PLAIN, *both]))
         return self._notation
 
     def with_operator(self, new: Operator) -> "Table":

@@ -2,6 +2,8 @@
 
 from __future__ import annotations
 
+import re
+import string
 from typing import Dict, List, NamedTuple, Sequence
 
 from holls.surface.errors import Misread
@@ -11,7 +13,9 @@ MOST_CHARACTERS = 200_000
 """The longest text that is read."""
 
 WORD, NUMBER, VARIABLE, SYMBOL, END = "word", "number", "variable", "symbol", "end"
-_KINDS = ("", WORD, NUMBER, VARIABLE, SYMBOL)
+_OF_FIRST = {**dict.fromkeys(string.ascii_letters + "_", WORD), **dict.fromkeys(string.digits, NUMBER)}
+_VARIABLE = re.compile(r"\?[0-9]")
+_SPACE = " \t\r\n"
 
 
 class Token(NamedTuple):
@@ -28,14 +32,15 @@ def tokens(text: str, table: Table, base: int = 0) -> List[Token]:
     if len(text) > MOST_CHARACTERS:
         raise Misread(base, base + 1, "this text has over %d characters" % MOST_CHARACTERS)
     found: List[Token] = []
-    put, make = found.append, tuple.__new__  # Token(..) takes twice as long.
-    last = len(text.rstrip(" \t\r\n"))
-    for match in table.tokens.finditer(text, 0, last):
-        kind = match.lastindex
-        if kind == 5:
-            raise unknown(text, match.start(5), base)
-        part, end = match[kind], match.end() + base
-        put(make(Token, (_KINDS[kind], part, end - len(part), end)))
+    put, make, symbols = found.append, tuple.__new__, table.symbols  # Token(..) takes twice as long.
+    end, last = base, len(text.rstrip(_SPACE))
+    for space, part in table.tokens.findall(text, 0, last):
+        start = end + len(space)
+        end = start + len(part)
+        kind = _OF_FIRST.get(part[0]) or (SYMBOL if part in symbols else VARIABLE if _VARIABLE.match(part) else None)
+        if kind is None:
+            raise unknown(text, start - base, base)
+        put(make(Token, (kind, part, start, end)))
     found.append(Token(END, "", last + base, last + base))
     return found
 

@@ -6,7 +6,8 @@ A command's quotations are read one by one. One with nothing of the notation is 
 from __future__ import annotations
 
 from bisect import bisect_right
-from typing import Dict, List, Mapping, NamedTuple, Optional, Set, Tuple
+from functools import partial
+from typing import Callable, Dict, List, Mapping, NamedTuple, Optional, Sequence, Set, Tuple, Union
 
 from holls.surface import definition
 from holls.surface.errors import Misread
@@ -28,18 +29,32 @@ _SPACE = " \t\r\n"
 _BETWEEN = ("", " ", "(", ")")
 """What stands between the names and symbols of what is written."""
 
+_Part = Tuple[int, Optional[PlainWriter]]
+
 
 class Translation:
-    """A command as it is sent. Without segments it is sent as it is written; with an error it isn't sent, and its text is empty.
+    """A command as it is sent. Without `segments` it is sent as it is written; with an error it isn't sent, and its text is empty.
 
-    `answers` are what was asked of the vocabulary.
+    `answers` are what was asked of the vocabulary. Segments may be given by what makes them, where they are asked for.
     """
 
-    __slots__ = ("text", "segments", "error", "answers")
+    __slots__ = ("text", "error", "answers", "_segments")
 
-    def __init__(self, text: str, segments: Optional[List[Segment]] = None, error: Optional[Misread] = None,
+    def __init__(self, text: str, segments: Union[List[Segment], Callable[[], List[Segment]], None] = None, error: Optional[Misread] = None,
                  answers: Optional[Mapping[Tuple[str, str], Optional[bool]]] = None) -> None:
-        self.text, self.segments, self.error, self.answers = text, segments, error, answers or {}
+        self.text, self.error, self.answers, self._segments = text, error, answers or {}, segments
+
+    @property
+    def is_changed(self) -> bool:
+        """Whether what is sent isn't what is written."""
+        return self._segments is not None or self.error is not None
+
+    @property
+    def segments(self) -> Optional[List[Segment]]:
+        """What leads back from the places of what is sent."""
+        if callable(self._segments):
+            self._segments = self._segments()
+        return self._segments
 
     def range(self, start: int, end: int) -> Tuple[int, int]:
         """The range in the command as it is written from which a range of what is sent comes: one character at least of what has any."""
@@ -100,32 +115,38 @@ def _translated(text: str, table: Table, vocabulary: Vocabulary) -> Translation:
     parts = text.split("`")
     is_defining = text.startswith(_DEFINING) and text[len(_DEFINING):len(_DEFINING) + 1] in _SPACE
     asked = Asked(vocabulary)
-    sent: List[str] = []
-    segments: List[Segment] = []
-    length = at = 0
-    is_changed = False
+    made: List[_Part] = []
+    at, is_quotation = 0, False
+    last = len(parts) - 1
     for number, part in enumerate(parts):
         writer = None
-        if number % 2 and number + 1 < len(parts):
+        if is_quotation and number < last:
             try:
                 writer = _quotation(part, at, table, asked, is_defining)
             except Misread as error:
                 return Translation("", None, error, asked.answers)
-        if writer is None:
-            segments.append((length, at, at + len(part)))
-            sent.append(part)
-            length += len(part)
-        else:
-            is_changed = True
-            segments += [(length + offset, start, end) for offset, start, end in writer.segments]
-            sent.append(writer.text)
-            length += writer.length
-        at += len(part)
-        if number + 1 < len(parts):
-            segments.append((length, at, at + 1))
-            sent.append("`")
+            if writer is not None:
+                parts[number] = writer.text
+        made.append((len(part), writer))
+        at += len(part) + 1
+        is_quotation = not is_quotation
+    is_changed = any(writer is not None for _, writer in made)
+    return Translation("`".join(parts), partial(_segments, made), None, asked.answers) if is_changed else Translation(text, None, None, asked.answers)
+
+
+def _segments(parts: Sequence[_Part]) -> List[Segment]:
+    """What leads back from the places of a command of parts, between which backquotes stand: each a number of characters that are sent as they are
+    written, or else that of those in whose place something was written."""
+    found: List[Segment] = []
+    length = at = 0
+    for number, (written, writer) in enumerate(parts):
+        if number:
+            found.append((length, at, at + 1))
             length, at = length + 1, at + 1
-    return Translation("".join(sent), segments, None, asked.answers) if is_changed else Translation(text, None, None, asked.answers)
+        found += [(length, at, at + written)] if writer is None else writer.segments(length)
+        length += written if writer is None else len(writer.text)
+        at += written
+    return found
 
 
 def _quotation(text: str, base: int, table: Table, vocabulary: Vocabulary, is_defining: bool) -> Optional[PlainWriter]:
@@ -164,7 +185,7 @@ def _written(text: str, base: int, table: Table, vocabulary: Vocabulary, is_defi
         term = reader.ended(reader.term())
         if reader.is_notation:
             writer.term(term)
-    if writer.deepest > MOST_BRACKETS:
+    if writer.text.count("(") > MOST_BRACKETS and writer.deepest() > MOST_BRACKETS:
         raise _too_deep(term, table)
     return writer if reader.is_notation else None
 
