@@ -113,6 +113,16 @@ class File:
         """Has what needs its quotations read made anew when it is asked for."""
         self._notation = self.hints = None
 
+    def with_imports(self) -> List["File"]:
+        """The file and those that it imports, by way of others too."""
+        found, waiting = {self.name: self}, [self]
+        while waiting:
+            file = waiting.pop()
+            new = {name: one for name, one in file._imported.items() if name in file.carried_out and name not in found}
+            found.update(new)
+            waiting += new.values()
+        return list(found.values())
+
     def _known(self) -> Dict[str, Notation]:
         """What the files that it imports are in notation, where these are carried out."""
         imports = self.carried_out

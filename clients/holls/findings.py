@@ -13,6 +13,7 @@ from typing import List, Optional, Sequence, Tuple
 
 from holls import declaring, notation, protocol, words
 from holls.files import File
+from holls.meant import Meant
 from holls.protocol import Goals, Lost, Made, Refusal
 from holls.surface.errors import Misread
 from holls.text import REMEMBERED, Command
@@ -74,6 +75,7 @@ class _Walk:
 
     def __init__(self, file: File) -> None:
         self.file = file
+        self.meant = Meant(file)
         self.findings: List[Finding] = []
         self.proof: Optional[_Proof] = None
         self.refused_goal: Optional[int] = None
@@ -133,6 +135,7 @@ class _Walk:
             return
         if refusal.number == protocol.GOALS_REMAIN and proof and proof.last:
             text += _remaining(View.of(self.file, number), proof.last)
+        text += self.meant.said(number, refusal)
         if refusal.number == protocol.NAME_TAKEN:
             text += self.namesake(number, refusal.argument.split(":")[-1])
         cause = self.cause(number, refusal)

@@ -2,9 +2,10 @@
 
 import json
 import random
+import time
 import unittest
 
-from holls import protocol
+from holls import graph, protocol
 from holls.files import File
 from holls.findings import Severity, findings, unknown
 from holls.lsp.workspace import Workspace
@@ -188,6 +189,47 @@ class OneFailureHidesNoOther(unittest.TestCase):
     def test_a_name_that_is_no_function_is_an_error_wherever_it_stands(self):
         said = self.said("g A `x = x`;;\ne FOO_TAC;;\ne BAR_TAC;;\ne CONJ_TAC;;\n")
         self.assertEqual([found[:2] for found in said], [(2, "ERROR"), (3, "ERROR"), (4, "NOTE")])
+
+
+class MisspeltNames(unittest.TestCase):
+    """The name that was meant stands in the message, where one that stands above is like it."""
+
+    LIBRARY = "new_type list 1;;\nnew_constant length `:(A)list->num`;;\nnew_axiom LENGTH_ONE `p`;;\ndeftac SPLIT_TAC CONJ_TAC;;\n"
+
+    def said(self, command, refusal):
+        library, file = File("L.hol"), File("A.hol")
+        library.take(self.LIBRARY)
+        file.take("import L;;\nnew_axiom OWN_RULE `p`;;\n%s;;\nnew_axiom LATER_RULE `p`;;" % command)
+        graph.share_notation([library, file])
+        for entry in file.theory.entries:
+            entry.report = protocol.Made(())
+        file.entry(2).report = refusal
+        return findings(file)[0].text
+
+    def test_of_theorems_and_functions_on_goals(self):
+        for name, meant in (("LENGHT_ONE", "LENGTH_ONE"), ("length_one", "LENGTH_ONE"), ("OWNRULE", "OWN_RULE"), ("OWN_RULES", "OWN_RULE"),
+                            ("EQ_IMPP", None), ("LATER_RULES", None), ("SELECT_A", "SELECT_AX")):
+            text = self.said("e ACCEPT_TAC %s" % name, protocol.Refusal(protocol.UNKNOWN_THEOREM, name, "unknown theorem"))
+            self.assertEqual(text, "no theorem %s stands before this command%s" % (name, "; did you mean %s?" % meant if meant else ""))
+        text = self.said("e SPLT_TAC", protocol.Refusal(protocol.UNKNOWN_TAC, "SPLT_TAC", "unknown function"))
+        self.assertIn("; did you mean SPLIT_TAC?", text)
+        self.assertEqual(text.count("did you mean"), 1)
+
+    def test_of_constants_and_types(self):
+        untypable = protocol.Refusal(protocol.UNTYPABLE, "4", "untypable")
+        for term, meant in (("lengthh x = T", "; no constant `lengthh`: did you mean `length`?"), ("lenght = T", "; no constant `lenght`: did you mean `length`?"),
+                            ("T = (x:(A)lst)", "; no type `lst`: did you mean `list`?"), ("length = T", ""), ("le = T", ""),
+                            ("!lengthh. lengthh T", ""), ("T T", "")):
+            text = self.said("g B `%s`" % term, untypable)
+            self.assertEqual(text[text.index("no function") + len("no function"):], meant, term)
+        text = self.said("new_definition D `d x = lengthh x`", protocol.Refusal(protocol.NOT_CLOSED, "lengthh", "not closed"))
+        self.assertIn("or did you mean the constant length?", text)
+
+    def test_hostile_names_take_no_time(self):
+        names = ["length%s" % ("x" * 500)] + ["lengt%s" % letter for letter in "abcdefgijklmnopqrstuvwxyz"] * 100
+        begun = time.process_time()
+        self.said("g B `T T %s`" % " ".join(names), protocol.Refusal(protocol.UNTYPABLE, "4", "untypable"))
+        self.assertLess(time.process_time() - begun, 5)
 
 
 def orders(number, more=8):

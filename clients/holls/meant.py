@@ -1,0 +1,101 @@
+"""Which name was meant: the one like a misspelt one of those that stand before a command, by the texts of the file and of those that it imports.
+
+Two names are like one another where one letter is missing, too many, another one or in another place, capitals and underscores apart.
+"""
+
+from __future__ import annotations
+
+import re
+from typing import Dict, Iterator, List, Optional, Tuple
+
+from holls import binders, manual, names, notation, protocol
+from holls.files import File
+from holls.names import CONSTANT, IN_TERMS, TACTIC, THEOREM, TYPE
+from holls.protocol import Refusal
+
+LEAST = 3
+"""Shorter names of quotations are those of variables, which may be like any constant's."""
+_MOST_LETTERS = 100
+_MOST_STRANGE = 20
+"""Of so many names of a quotation it is looked at whether they are bound, or stand in types."""
+_NAME = re.compile(r"(?<![A-Za-z0-9_'?])[A-Za-z_][A-Za-z0-9_']*")
+_OF_QUOTATIONS = (protocol.UNTYPABLE, protocol.NOT_BOOL, protocol.ARITY)
+
+
+class Meant:
+    """The names that stand in a file, by what they are like. They are gathered where the first name is looked for."""
+
+    def __init__(self, file: File) -> None:
+        self.file = file
+        self._likes: Dict[str, Dict[str, List[Tuple[int, str]]]] = {}
+
+    def said(self, number: int, refusal: Refusal) -> str:
+        """Words on the names that were meant in a refused command, or none."""
+        name = refusal.argument
+        if refusal.number == protocol.UNKNOWN_THEOREM:
+            return _question(self.like(THEOREM, name, number))
+        if refusal.number == protocol.UNKNOWN_TAC:
+            is_told = name in notation.FORWARD or name in notation.ELSEWHERE or notation.near(name, notation.TACS)
+            return "" if is_told else _question(self.like(TACTIC, name, number))
+        if refusal.number == protocol.NOT_CLOSED:
+            near = self.like(CONSTANT, name, number)
+            return "; or did you mean the constant %s?" % near if near else ""
+        return self._in_quotation(number, refusal.argument) if refusal.number in _OF_QUOTATIONS else ""
+
+    def like(self, kind: str, name: str, number: int) -> Optional[str]:
+        """The name of a kind that stands before a command and is like one that doesn't: of several the last one that was made."""
+        if kind in IN_TERMS and len(name) < LEAST:
+            return None
+        likes = self._of_kind(kind)
+        found = [made for key in _keys(name) for made in likes.get(key, ()) if made[0] < number and made[1] != name]
+        return max(found)[1] if found else None
+
+    def _of_kind(self, kind: str) -> Dict[str, List[Tuple[int, str]]]:
+        """The names of a kind by what they are like, each with the command that makes it, or -1 where another file does."""
+        if kind not in self._likes:
+            likes = self._likes[kind] = {}
+            for at, name in self._names(kind):
+                for key in _keys(name):
+                    likes.setdefault(key, []).append((at, name))
+        return self._likes[kind]
+
+    def _names(self, kind: str) -> Iterator[Tuple[int, str]]:
+        yield from ((-1, one.name) for one in names.PRELUDE if one.kind == kind)
+        if kind == TACTIC:
+            yield from ((-1, name) for name in manual.FUNCTIONS)
+        for file in self.file.with_imports():
+            for one in names.written(file):
+                if one.kind == kind and file.commands[one.last].text != "oops":
+                    yield (one.last if file is self.file else -1), one.name
+
+    def _in_quotation(self, number: int, place: str) -> str:
+        """Words on the first name in the quotation at a place that no constant and no type has, and one that stands is like."""
+        text = self.file.commands[number].text
+        start, end = notation.quotation(text, int(place) if place.isdecimal() and len(place) < 9 else 0)
+        for name, at in self._strange(text, start, end, number):
+            kind = TYPE if binders.is_in_type(text, at) else CONSTANT
+            near = self.like(kind, name, number)
+            if near and not binders.is_bound(text, at):
+                return "; no %s `%s`: did you mean `%s`?" % (kind, name, near)
+        return ""
+
+    def _strange(self, text: str, start: int, end: int, number: int) -> List[Tuple[str, int]]:
+        """Names in a quotation that no constant and no type has, and one that stands is like; but not that of a constant that is defined there."""
+        vocabulary = self.file.notation.vocabulary_at(number - 1)
+        names_in = {found.group(): found.start() for found in reversed(list(_NAME.finditer(text, start, end)))}
+        defined = min(names_in.values(), default=0) if text.startswith("new_definition") else -1
+        found = [
+            (name, at) for name, at in sorted(names_in.items(), key=lambda one: one[1])
+            if at != defined and not vocabulary.is_constant(name) and vocabulary.takes_arguments(name) is None
+            and any(self.like(kind, name, number) for kind in IN_TERMS)]
+        return found[:_MOST_STRANGE]
+
+
+def _question(near: Optional[str]) -> str:
+    return "; did you mean %s?" % near if near else ""
+
+
+def _keys(name: str) -> List[str]:
+    """What names that are like one another have in common: themselves, and what is left where one letter goes."""
+    plain = name[:_MOST_LETTERS].upper().replace("_", "")
+    return list(dict.fromkeys([plain] + [plain[:at] + plain[at + 1:] for at in range(len(plain))]))
