@@ -437,6 +437,27 @@ class Bridging(unittest.TestCase):
         editor.until(lambda: editor.said(self.uri) == [])
         self.assertEqual(editor.end(), 0)
 
+    def test_what_an_edit_of_an_open_file_changes_is_told_anew_in_those_that_import_it(self):
+        editor, other, last = self.editor(), (self.folder / "B.hol").as_uri(), (self.folder / "C.hol").as_uri()
+        editor.open(self.uri, "infixr 16 + add;;\n" + proofs(1))
+        editor.open(other, "import A;;\n")
+        editor.open(last, "import B;;\ninfixr 12 + plus;;\n")
+
+        def told():
+            return [found["message"] for found in editor.published.get(last, [])]
+
+        wanted = ["nothing makes the constant plus in this file or in those that it imports"]
+        editor.until(lambda: any("`+` stands for add already" in message for message in told()))
+        editor.until(lambda: editor.goals(last, 0, 1)["messages"] == ["thm N0 |- f x = f x"])
+        editor.change(self.uri, 2, "infixr 16 ++ add;;\n" + proofs(1))  # Nothing of what is sent is another one.
+        editor.until(lambda: told() == wanted)
+        editor.change(self.uri, 3, proofs(1).replace("N0", "OTHER"))
+        editor.until(lambda: editor.goals(last, 0, 1)["messages"] == ["thm OTHER |- f x = f x"])
+        editor.change(self.uri, 4, "infixr 16 + add;;\n" + proofs(1))
+        editor.until(lambda: any("`+` stands for add already" in message for message in told()))
+        editor.until(lambda: editor.goals(last, 0, 1)["messages"] == ["thm N0 |- f x = f x"])
+        self.assertEqual(editor.end(), 0)
+
     def test_what_changes_on_disk_is_noticed(self):
         editor, other = self.editor(), (self.folder / "B.hol").as_uri()
         editor.open(other, "import C;;\n")

@@ -130,7 +130,8 @@ class Publisher:
         known = sum(entry.report is not None for entry in theory.entries)
         slow = sum(entry.is_slow for entry in theory.entries)
         context = [blemish.text for blemish in document.file.context]
-        return document.version, id(server), failure, context, theory.edits, known, slow, self._is_done(document)
+        notation = document.file.notation  # Another one where what an import declares is, though all that is sent is as it was.
+        return document.version, id(server), failure, context, theory.edits, notation, known, slow, self._is_done(document)
 
     def _send_unknown(self, document: Document, failure: Optional[str]) -> None:
         """Shows which commands' outcomes aren't known yet, as Lean's editors show what is being processed."""
