@@ -125,14 +125,15 @@ class WhileReportsCome(unittest.TestCase):
             folder = ROOT / "examples" / "theories"
             file = taken((folder / (name + ".hol")).read_text(encoding="utf-8"))
             lines = (folder / (name + ".replies")).read_text(encoding="utf-8").splitlines()
-            replies = [line for line in lines if line.startswith("{")][:len(file.commands)]
-            self.assertEqual(len(replies), len(file.commands))
+            sent = [number for number in range(len(file.commands)) if not file.is_declaration(number)]
+            replies = [line for line in lines if line.startswith("{")][:len(sent)]
+            self.assertEqual(len(replies), len(sent))
             for order in orders(len(replies), 1):
                 for entry in file.theory.entries:
                     entry.report = None
-                for number in order:
-                    file.entry(number).report = protocol.reply(replies[number].encode())
-                    self.assertEqual(findings(file), [], (name, number))
+                for at in order:
+                    file.entry(sent[at]).report = protocol.reply(replies[at].encode())
+                    self.assertEqual(findings(file), [], (name, sent[at]))
 
     def test_what_is_not_known_is_told_apart(self):
         file = taken(proofs(1))
