@@ -51,7 +51,7 @@ export class Hour {
   }
 
   lesson() {
-    const { title, say, wanted } = LESSONS[this.number];
+    const { title, say, wanted, inNotation = wanted } = LESSONS[this.number];
     const isDone = this.done.has(this.number);
     const paragraphs = say.map((html) => element('p', { innerHTML: html }));
     const next = this.number + 1 < LESSONS.length ? 'Next lesson' : 'All lessons';
@@ -59,7 +59,7 @@ export class Hour {
       element('h2', {}, `${this.number + 1}. ${title}`),
       ...paragraphs,
       element('p', {}, 'Wanted:'),
-      element('ul', { className: 'wanted' }, ...wanted.map((text) => element('li', {}, element('code', {}, text.replace(THEOREM, '$1: '))))),
+      element('ul', { className: 'wanted' }, ...inNotation.map((text) => element('li', {}, element('code', {}, text.replace(THEOREM, '$1: '))))),
       element('p', { className: isDone ? 'verdict done' : 'verdict', id: 'verdict' }, isDone ? DONE : 'Not proved yet.'),
       ...this.hintParts(),
       element('p', { className: 'buttons' },

@@ -1,5 +1,5 @@
 // The first hour: ten lessons. Of each: what it says, the parts of the text that it begins with, what has to be made in the end (as reports
-// show it), and hints, each with the commands that it gives away.
+// show it; and `inNotation` as it is shown, where the lesson declares notation), and hints, each with the commands that it gives away.
 
 export const LESSONS = [
   {
@@ -169,21 +169,28 @@ export const LESSONS = [
       'Define what it is to do one function after another: the constant <code>COMP</code>, by a theorem <code>COMP_DEF</code>, with '
       + '<code>COMP g f = \\x. g (f x)</code>. (<code>\\x. t</code> is the function that takes x to t.) Say the types of both: '
       + '<code>(g:B->C) (f:A->B)</code>.',
+      'The command <code>infixr 26 after COMP;;</code> declares notation: <code>g after f</code> is written for <code>COMP g f</code> from here on, '
+      + 'and goals are shown so. (26 says how tightly it binds, <code>infixr</code> that <code>h after g after f</code> is <code>h after (g after f)</code>.)',
       'Then prove the two theorems that are begun here. <code>REWRITE_TAC [COMP_DEF]</code> writes out what COMP is, and '
       + '<code>BETA_TAC</code> makes <code>(\\x. t) a</code> into t at a.',
     ],
     given: [
-      '(* Define COMP here. *)\n',
-      'g COMP_AT `!(g:B->C) (f:A->B) x. COMP g f x = g (f x)`;;\n',
-      'g COMP_ASSOC `!(h:C->D) (g:B->C) (f:A->B). COMP h (COMP g f) = COMP (COMP h g) f`;;\n',
+      'infixr 26 after COMP;;\n(* Define COMP here. *)\n',
+      'g COMP_AT `!(g:B->C) (f:A->B) x. (g after f) x = g (f x)`;;\n',
+      'g COMP_ASSOC `!(h:C->D) (g:B->C) (f:A->B). h after g after f = (h after g) after f`;;\n',
     ],
     wanted: [
       'thm COMP_DEF |- !g f. COMP g f = (\\x. g (f x))',
       'thm COMP_AT |- !g f x. COMP g f x = g (f x)',
       'thm COMP_ASSOC |- !h g f. COMP h (COMP g f) = COMP (COMP h g) f',
     ],
+    inNotation: [
+      'thm COMP_DEF |- !g f. g after f = (\\x. g (f x))',
+      'thm COMP_AT |- !g f x. (g after f) x = g (f x)',
+      'thm COMP_ASSOC |- !h g f. h after g after f = (h after g) after f',
+    ],
     hints: [
-      { say: 'The definition:', code: 'new_definition COMP_DEF `COMP (g:B->C) (f:A->B) = \\x. g (f x)`;;\n', part: 0 },
+      { say: 'The definition:', code: 'new_definition COMP_DEF `(g:B->C) after (f:A->B) = \\x. g (f x)`;;\n', part: 0 },
       {
         say: 'Of the first theorem: take the <code>!</code> off, write out what COMP is, and reduce. Then both sides are the same.',
         code: 'e REPEAT GEN_TAC THEN REWRITE_TAC [COMP_DEF] THEN BETA_TAC THEN REFL_TAC;;\nqed;;\n', part: 1,
