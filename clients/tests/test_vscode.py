@@ -35,6 +35,7 @@ class InVSCode(unittest.TestCase):
         self.assertEqual((found["signature"], found["searched"]), ("MATCH_MP_TAC th", [["INFINITY_AX"], ["SELECT_AX"]]))
         self.assertEqual((found["typed"], found["unknown"]), (["INFINITY_AX", "SELECT_AX", [13, 20, "∀"]], 0))
         self.assertIn("The bridge holls doesn't run", found["shown"][0])
+        self.assertEqual(found["opened"], ["file:///A.hol"])
 
 
 if __name__ == "__main__":

@@ -23,7 +23,7 @@ class EventEmitter {
   dispose() {}
 }
 const plain = (...names) => class { constructor(...values) { names.forEach((name, at) => { this[name] = values[at]; }); } };
-const Uri = { parse: (uri) => ({ toString: () => uri }) };
+const Uri = { parse: (uri) => ({ scheme: uri.split(':')[0], toString: () => uri }) };
 const register = (name) => (...given) => { providers[name] = given[given.length - 1]; return { dispose() {} }; };
 const on = (name) => (listener) => { events[name] = listener; return { dispose() {} }; };
 const found = new Map();
@@ -64,7 +64,7 @@ const vscode = {
   workspace: {
     getConfiguration: () => ({ get: (key) => settings[key] }), textDocuments: [file], openTextDocument: async () => goals.document,
     registerTextDocumentContentProvider: register('goals'), onDidOpenTextDocument: on('open'), onDidChangeTextDocument: on('change'),
-    onDidCloseTextDocument: on('close'), onDidSaveTextDocument: on('save'),
+    onDidCloseTextDocument: on('close'), onDidChangeConfiguration: on('configuration'), onDidSaveTextDocument: on('save'),
   },
   window: {
     activeTextEditor: editor, visibleTextEditors: [editor, goals], showTextDocument: async () => goals,
@@ -100,6 +100,7 @@ async function run() {
   await providers['holls.plain'](); // What has no notation is the same in plain text.
   results.plain = providers.goals.provideTextDocumentContent();
   await providers['holls.plain']();
+  events.open({ ...file, uri: Uri.parse('git:/A.hol?HEAD') }); // The version before, as it stands beside a file's changes.
   file.version = 2;
   events.change({ document: file, contentChanges: [{ range: new Range(2, 2, 2, 9), text: 'ALL_TAC' }] });
   await until(() => said().length === 1 && said()[0][0] === 0);
@@ -124,11 +125,15 @@ async function run() {
   for (const at of [12, 20]) events.change({ document: file, contentChanges: [{ range: new Range(0, at, 0, at), text: ' ' }] });
   await until(() => results.unknown === 0);
   results.typed = typed;
+  results.opened = [...found.keys()];
   extension.deactivate();
   settings = { command: ['/nowhere/holls'] };
   await extension.activate({ subscriptions: [] });
   await until(() => shown.length === 1);
   results.shown = shown;
+  settings = { command };
+  events.configuration({ affectsConfiguration: (name) => name === 'holls.command' });
+  await until(() => said().length);
   process.stdout.write(JSON.stringify(results));
 }
 

@@ -2,11 +2,14 @@
 // hol-serve in VS Code: errors and goals as one types, over the bridge `holls lsp`. docs/EDITORS.md says how to use it.
 
 const fs = require('fs');
+const os = require('os');
 const path = require('path');
 const vscode = require('vscode');
 const { Bridge } = require('./bridge.js');
 
 const LANGUAGE = 'hol';
+const SCHEMES = ['file', 'untitled']; // Not those of an earlier version beside a file, as `git`: it would be a second theory of one name.
+const SELECTOR = SCHEMES.map((scheme) => ({ language: LANGUAGE, scheme }));
 const GOALS = vscode.Uri.parse('hol-goals:goals');
 const SEEN_MILLISECONDS = 50;
 const SYMBOLS = {
@@ -15,6 +18,7 @@ const SYMBOLS = {
 };
 
 let bridge = null;
+let begun = ''; // The words that started it.
 let diagnostics = null;
 let goalsText = '';
 let isPlain = false; // Whether goals are shown as the program says them.
@@ -25,26 +29,29 @@ const lensesChanged = new vscode.EventEmitter();
 const unknown = new Map(); // The ranges that aren't known yet, by the documents' addresses.
 const waiting = vscode.window.createTextEditorDecorationType({ isWholeLine: true, opacity: '0.6' });
 
-const isHol = (document) => document.languageId === LANGUAGE;
+const isHol = (document) => document.languageId === LANGUAGE && SCHEMES.includes(document.uri.scheme);
+const atHome = (file) => file.replace(/^~(?=[/\\])/, os.homedir());
 const at = (document, position) => ({ textDocument: { uri: document.uri.toString() }, position });
 const range = (found) => new vscode.Range(found.start.line, found.start.character, found.end.line, found.end.character);
 
 function command() {
   const given = vscode.workspace.getConfiguration('holls').get('command') || [];
-  if (given.length) return given;
+  if (given.length) return given.map(atHome);
   const own = path.join(__dirname, 'bin', 'holls'); // As in the package that clients/vscode/package makes.
   const bridge = fs.existsSync(own) ? own : path.join(__dirname, '..', 'bin', 'holls');
   const server = vscode.workspace.getConfiguration('holls').get('server');
-  return ['python3', bridge, 'lsp', ...(server ? ['--server', server] : [])];
+  return ['python3', bridge, 'lsp', ...(server ? ['--server', atHome(server)] : [])];
 }
 
 // Starts the bridge and gives it all that is open.
 async function start() {
-  const mine = new Bridge(command(), heard, (reason) => {
+  const words = command();
+  begun = JSON.stringify(words);
+  const mine = new Bridge(words, heard, (reason) => {
     if (bridge === mine) {
       bridge = null;
       diagnostics.clear();
-      vscode.window.showErrorMessage(`The bridge holls doesn't run: ${reason}. See "holls.command", then run "HOL: Restart".`);
+      vscode.window.showErrorMessage(`The bridge holls doesn't run: ${reason}. See the settings "holls.command" and "holls.server".`);
     }
   });
   bridge = mine;
@@ -184,8 +191,26 @@ async function openGoals() {
   await showGoals();
 }
 
+// The program is started anew; and the bridge, where other words start it now.
 function restart() {
-  return bridge ? request('workspace/executeCommand', { command: 'holls.restart' }) : start();
+  const isSame = bridge && JSON.stringify(command()) === begun;
+  return isSame ? request('workspace/executeCommand', { command: 'holls.restart' }) : renew();
+}
+
+function renew() {
+  stop();
+  diagnostics.clear();
+  return start();
+}
+
+function configured(event) {
+  if (['holls.command', 'holls.server'].some((setting) => event.affectsConfiguration(setting))) renew();
+}
+
+function stop() {
+  const last = bridge;
+  bridge = null;
+  if (last) last.stop();
 }
 
 // A request whose failure is no more than a missing answer.
@@ -278,22 +303,23 @@ const providers = {
 function register() {
   const { languages, workspace, window, commands } = vscode;
   return [
-    languages.registerHoverProvider(LANGUAGE, { provideHover: providers.hover }),
-    languages.registerDefinitionProvider(LANGUAGE, { provideDefinition: providers.definition }),
-    languages.registerDocumentSymbolProvider(LANGUAGE, { provideDocumentSymbols: providers.symbols }),
-    languages.registerFoldingRangeProvider(LANGUAGE, { provideFoldingRanges: providers.foldings }),
-    languages.registerCompletionItemProvider(LANGUAGE, { provideCompletionItems: providers.completions }, '\\'),
-    languages.registerReferenceProvider(LANGUAGE, { provideReferences: providers.references }),
+    languages.registerHoverProvider(SELECTOR, { provideHover: providers.hover }),
+    languages.registerDefinitionProvider(SELECTOR, { provideDefinition: providers.definition }),
+    languages.registerDocumentSymbolProvider(SELECTOR, { provideDocumentSymbols: providers.symbols }),
+    languages.registerFoldingRangeProvider(SELECTOR, { provideFoldingRanges: providers.foldings }),
+    languages.registerCompletionItemProvider(SELECTOR, { provideCompletionItems: providers.completions }, '\\'),
+    languages.registerReferenceProvider(SELECTOR, { provideReferences: providers.references }),
     languages.registerWorkspaceSymbolProvider({ provideWorkspaceSymbols: providers.allSymbols }),
-    languages.registerDocumentLinkProvider(LANGUAGE, { provideDocumentLinks: providers.links }),
-    languages.registerCodeActionsProvider(LANGUAGE, { provideCodeActions: providers.actions, resolveCodeAction: providers.action }),
-    languages.registerSignatureHelpProvider(LANGUAGE, { provideSignatureHelp: providers.signature }, ' ', '(', '[', '`'),
-    languages.registerCodeLensProvider(LANGUAGE, {
+    languages.registerDocumentLinkProvider(SELECTOR, { provideDocumentLinks: providers.links }),
+    languages.registerCodeActionsProvider(SELECTOR, { provideCodeActions: providers.actions, resolveCodeAction: providers.action }),
+    languages.registerSignatureHelpProvider(SELECTOR, { provideSignatureHelp: providers.signature }, ' ', '(', '[', '`'),
+    languages.registerCodeLensProvider(SELECTOR, {
       onDidChangeCodeLenses: lensesChanged.event, provideCodeLenses: providers.lenses, resolveCodeLens: providers.lens,
     }),
     workspace.registerTextDocumentContentProvider('hol-goals', {
       onDidChange: goalsChanged.event, provideTextDocumentContent: () => goalsText,
     }),
+    workspace.onDidChangeConfiguration(configured),
     workspace.onDidOpenTextDocument(opened),
     workspace.onDidChangeTextDocument(changed),
     workspace.onDidCloseTextDocument(closed),
@@ -315,10 +341,4 @@ function activate(context) {
   return start();
 }
 
-function deactivate() {
-  const last = bridge;
-  bridge = null;
-  if (last) last.stop();
-}
-
-module.exports = { activate, deactivate };
+module.exports = { activate, deactivate: stop };

@@ -6,7 +6,7 @@ from typing import TYPE_CHECKING, Iterable, List, Optional, Tuple, Union
 
 from holls.api.engine import Answer, TookTooLong
 from holls.api.shown import Read, read
-from holls.api.values import Kind, ProgramDied, Refused, Theorem, misread, not_taken, refused, too_slow
+from holls.api.values import Kind, ProgramDied, Refused, Theorem, misread, not_taken, refused, refused_whole, too_slow
 from holls.protocol import Error, Goal, Goals, Made, Refusal
 
 if TYPE_CHECKING:
@@ -159,8 +159,8 @@ def no_state(command: Read, answer: Optional[Answer], seconds: float) -> Refused
     if isinstance(answer, Error):
         return not_taken(text, answer)
     if answer is None:
-        return Refused(text, Kind.REQUEST, 0, "", 0, len(text), "this command isn't sent: it is too long, or one too many")
-    return Refused(text, Kind.COMMAND, 0, "", 0, len(text), "this leads to no state: a step is `e` with an expression, `r n` or `b`")
+        return refused_whole(text, Kind.REQUEST, "this command isn't sent: it is too long, or one too many")
+    return refused_whole(text, Kind.COMMAND, "this leads to no state: a step is `e` with an expression, `r n` or `b`")
 
 
 def _goal_text(goal: Goal) -> str:

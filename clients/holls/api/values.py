@@ -4,7 +4,8 @@ from __future__ import annotations
 
 from dataclasses import dataclass, field
 from enum import Enum
-from typing import List, Optional, Tuple
+from functools import cached_property, partial
+from typing import Callable, List, Optional, Tuple
 
 from holls import protocol, words
 from holls.api.shown import Read
@@ -27,21 +28,42 @@ class Kind(Enum):
     """The command took longer than it may; `number` is 0."""
 
 
+Told = Tuple[int, int, str]
+
+
 @dataclass(frozen=True)
 class Refused:
     """A command that was refused, which changes nothing. It counts as false.
 
     `command` is its whole text, `start` and `end` the part of it, in characters, that is to blame, `sentence` what to do about it, and
-    `argument` what the program names beside the number: a name or a place.
+    `argument` what the program names beside the number: a name or a place. Words are found where they are asked for: of a search's refusals
+    nobody reads most.
     """
 
     command: str
     kind: Kind
     number: int
     argument: str
-    start: int
-    end: int
-    sentence: str
+    tell: Callable[[], Told] = field(repr=False, compare=False)
+
+    @cached_property
+    def _told(self) -> Told:
+        return self.tell()
+
+    @property
+    def start(self) -> int:
+        """Where the part that is to blame begins."""
+        return self._told[0]
+
+    @property
+    def end(self) -> int:
+        """Where the part that is to blame ends."""
+        return self._told[1]
+
+    @property
+    def sentence(self) -> str:
+        """What to do about it."""
+        return self._told[2]
 
     def __bool__(self) -> bool:
         return False
@@ -52,13 +74,26 @@ class Refused:
 
 def refused(command: Read, refusal: protocol.Refusal) -> Refused:
     """The refusal of a command in words, with its place in the command as it is written."""
+    return Refused(command.written, Kind.COMMAND, refusal.number, refusal.argument, partial(_explained, command, refusal))
+
+
+def _explained(command: Read, refusal: protocol.Refusal) -> Told:
     start, end, sentence = words.explain(command.sent, refusal)
-    return Refused(command.written, Kind.COMMAND, refusal.number, refusal.argument, *command.translation.range(start, end), sentence)
+    return (*command.translation.range(start, end), sentence)
 
 
 def misread(command: str, error: Misread) -> Refused:
     """The refusal of a command that can't be read in notation."""
-    return Refused(command, Kind.NOTATION, 0, "", error.start, max(error.start, error.end), error.text)
+    return Refused(command, Kind.NOTATION, 0, "", partial(_as_told, (error.start, max(error.start, error.end), error.text)))
+
+
+def refused_whole(command: str, kind: Kind, sentence: str, number: int = 0) -> Refused:
+    """The refusal of a command all of which is to blame."""
+    return Refused(command, kind, number, "", partial(_as_told, (0, len(command), sentence)))
+
+
+def _as_told(told: Told) -> Told:
+    return told
 
 
 _REQUESTS = {
@@ -71,12 +106,12 @@ _REQUESTS = {
 def not_taken(command: str, error: protocol.Error) -> Refused:
     """The refusal of a line that brought a command."""
     sentence = _REQUESTS.get(error.number, "the line was refused: %s" % error.text)
-    return Refused(command, Kind.REQUEST, error.number, "", 0, len(command), sentence)
+    return refused_whole(command, Kind.REQUEST, sentence, error.number)
 
 
 def too_slow(command: str, seconds: float) -> Refused:
     """The refusal of a command that took too long."""
-    return Refused(command, Kind.TIME, 0, "", 0, len(command), "this command was given up after %g seconds" % seconds)
+    return refused_whole(command, Kind.TIME, "this command was given up after %g seconds" % seconds)
 
 
 @dataclass(frozen=True)
