@@ -129,22 +129,20 @@ class File:
         return {name: one.notation for name, one in self._imported.items() if name in imports and one is not self}
 
     def _read(self) -> None:
-        """Has its commands as they are sent, and before it those of the files that it imports, by a stack of its own."""
-        waiting, seen = [self], {id(self)}
+        """Has its commands as they are sent, and before it those of the files that it imports, by a stack of its own: what waits in it is a way of
+        imports, on which no file stands twice."""
+        waiting, entered = [self], {id(self)}
         while self._notation is None:
             file = waiting[-1]
-            unread = [one for one in file._imported.values() if one._notation is None and id(one) not in seen]
-            if unread:
-                waiting += unread
-                seen.update(map(id, unread))
-                continue
-            waiting.pop()
-            file._take_notation()
+            unread = next((one for one in file._imported.values() if one._notation is None and id(one) not in entered), None)
+            if unread is None:
+                waiting.pop()._take_notation()
+            else:
+                waiting.append(unread)
+                entered.add(id(unread))
 
     def _take_notation(self) -> None:
         """Reads its quotations, where those of the files that it imports are read."""
-        if self._notation is not None:
-            return
         imports = self.carried_out
         self._read_by = {name: one._notation for name, one in self._imported.items() if name in imports and one._notation is not None}
         self._notation = Notation(self.cut.commands, self._read_by)

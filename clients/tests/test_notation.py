@@ -5,6 +5,7 @@ import contextlib
 import io
 import json
 import pathlib
+import random
 import subprocess
 import tempfile
 import unittest
@@ -66,6 +67,17 @@ class InFiles(unittest.TestCase):
             if not any(command.word in ("infixr", "infixl", "notation", "type_infixr", "import") for command in file.cut.commands):
                 self.assertEqual([command.text for command in file.commands], [command.text for command in file.cut.commands])
                 self.assertIs(file.commands[0], file.cut.commands[0])
+
+    def test_whichever_file_is_asked_for_first_those_that_it_imports_are_read_before_it(self):
+        for seed in range(40):
+            source, texts = random.Random(seed), {}
+            for at, name in enumerate("ABCDEFG"):
+                imports = source.sample("ABCDEFG"[:at], source.randrange(at + 1))
+                texts[name] = "".join("import %s;;\n" % other for other in imports) + "infixr 16 op%s c%s;;\n" % (name, name) + "".join(
+                    "g X%s `x op%s y`;;\n" % (other, other) for other in "ABCDEFG"[:at])
+            in_order, at_last = loaded(**texts), loaded(**texts)
+            wanted = {name: [command.text for command in in_order[name].commands] for name in "ABCDEFG"}
+            self.assertEqual({name: [command.text for command in at_last[name].commands] for name in "GFEDCBA"}, wanted, seed)
 
     def test_an_edited_declaration_changes_what_is_below_and_what_imports_it(self):
         files = loaded(A=NUMBERS, B="import A;;\ng X `x + 1 < 2`;;\ne ALL_TAC;;")
