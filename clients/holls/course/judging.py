@@ -84,7 +84,7 @@ class _Files:
         self.asked.take(text)
         below = graph.with_imports([self.asked], self._load)
         beside = graph.with_imports([self.sent], self._load_for_student)
-        imported = {file.theory.name: file for file in below + beside if file not in (self.sent, self.asked)}
+        imported = {file.name: file for file in below + beside if file not in (self.sent, self.asked)}
         self.imported = graph.ordered(list(imported.values()))
         if len(self.imported) + 3 > protocol.THEORIES:
             raise CannotJudge("it hangs together with %d theories by imports, and a program holds %d" % (len(self.imported) + 3, protocol.THEORIES))
@@ -155,7 +155,7 @@ class _Judge:
     def _ask(self) -> None:
         """Asks whether what the two files make fits together, and of each exercise its theorem's statement and items."""
         sent, given = self._files.sent.theory.name, self._files.asked.theory.name
-        taken = " ".join([sent, given, *self._files.sent.imports, *(file.theory.name for file in self._files.imported)])
+        taken = " ".join([sent, given, *self._files.sent.imports, *(file.name for file in self._files.imported)])
         beside, goal = unused("both", taken), unused("asked_for", " ".join([self._task.given, self._task.sent]))
         begun = ["import " + given, "import " + sent]
         self._ask_beside(beside, begun, lambda reply: setattr(self, "_both", reply))
