@@ -52,8 +52,10 @@ NAMES = {
 """Our names of constants that HOL Light calls otherwise."""
 ALLOWED = frozenset()
 """Names whose statements may differ."""
-ABOUT_OTHERS = ("real", "int", "hreal", "nadd", "treal", "complex", "cart", "finite_image", "word")
+ABOUT_OTHERS = ("real", "hreal", "nadd", "treal", "complex", "cart", "finite_image", "word")
 """Types that the library doesn't have: a theorem about them is counted in no row."""
+INTEGERS = "int.ml, of integers"
+"""The row of theorems about integers, which stand in a file among others."""
 BEGIN, END = "<!-- Made by bench/library.py --write, from here -->", "<!-- to here. -->"
 SCRIPT = r"""
 let kept = ref ([] : (string * string * thm) list);;
@@ -264,11 +266,15 @@ def numbered(term):
 
 def rows(told_of_all):
     """The table's rows by file, and the names that differ or that can't be read, with what is told of them."""
-    found, others = {file: Row() for file in FILES}, {}
+    found, others = {}, {}
+    for file in FILES:
+        found[file] = Row()
+        if file == "int.ml":
+            found[INTEGERS] = Row()
     for file, name, types, told in told_of_all:
         if set(types) & set(ABOUT_OTHERS):
             continue
-        row = found[file]
+        row = found[INTEGERS if "int" in types and file == "int.ml" else file]
         row.names += 1
         if told == "same":
             row.same.append(name)
@@ -276,6 +282,16 @@ def rows(told_of_all):
             row.differs.append(name)
             others[name] = told
     return found, others
+
+
+def kept_rows(found, text):
+    """The rows, and for files of which nothing was told those of a table that stands, as where a record has not all files."""
+    stand = {name: list(map(int, numbers)) for name, *numbers in re.findall(r"^\| (\S.*?) \| (\d+) \| \d+ \| (\d+) \| (\d+) \|", text, re.M)}
+    for file, row in found.items():
+        if not row.names and file in stand:
+            names, same, differs = stand[file]
+            found[file] = Row(names, [""] * same, [""] * differs)
+    return found
 
 
 def table(found):
@@ -290,12 +306,13 @@ def compare(theories, record, is_all, is_written):
     """Prints the comparison, and says whether no statement differs but those that may."""
     if not record and not os.path.exists(f"{HOL_LIGHT}/hol.ml"):
         sys.exit("library: HOL Light is not installed (Debian: apt-get install hol-light libnum-ocaml-dev)")
+    page = ROOT / "theories" / "README.md"
     found, others = rows(told_by_record(record) if record else told_by_hol_light(theories))
+    found = kept_rows(found, page.read_text(encoding="utf-8")) if record else found
     print(table(found))
     for name, told in others.items() if is_all else ():
         print(f"\n{name}: {told}\n  here       {theories.statements[name]}")
     if is_written:
-        page = ROOT / "theories" / "README.md"
         before, rest = page.read_text(encoding="utf-8").split(BEGIN, 1)
         page.write_text(f"{before}{BEGIN}\n\n{table(found)}\n\n{END}{rest.split(END, 1)[1]}", encoding="utf-8")
     differing = sorted(set(others) - ALLOWED)

@@ -65,6 +65,8 @@ class Replay:
         self.hints: List[str] = []
         self._numbers: Dict[int, int] = {}
         self.step_seconds = _STEP_SECONDS
+        self.refused = ""
+        """What the program said of a whole proof whose steps it had accepted."""
         self.is_searching = True
         """Whether what no step does is searched for, where a derivation may be had."""
         self.derived: List[str] = []
@@ -98,7 +100,9 @@ class Replay:
         self.asker.back(mark)
         texts = [begun] + commands(steps)
         for text in texts:
-            if not isinstance(self.asker.step(text), Goals):
+            report = self.asker.step(text)
+            if not isinstance(report, Goals):
+                self.refused = "%s: %s" % (report, text)
                 return None
         return texts + ["qed"]
 
