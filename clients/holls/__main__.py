@@ -1,5 +1,5 @@
 """The command line: `holls check FILE..`, `holls search QUERY..`, `holls prove FILE:LINE`, `holls repl`, `holls export`, `holls import`,
-`holls grade`, `holls page` and `holls lsp`."""
+`holls grade`, `holls page`, `holls serve` and `holls lsp`."""
 
 from __future__ import annotations
 
@@ -19,6 +19,7 @@ KINDS = {
     "write": ("holls.spelling", "print a plain file in the notation that it declares or imports"),
     "grade": ("holls.course.grading", "judge what a course's students have sent: a table of what is proved"),
     "page": ("holls.page", "open the page in the browser: an editor, goals and a first hour"),
+    "serve": ("holls.serving.command", "serve the page, and a course's exercises, to a class"),
     "lsp": ("holls.lsp.bridge", "speak the Language Server Protocol on standard input and output"),
 }
 """The commands, each with the module that has its words and carries it out. No other module is loaded."""

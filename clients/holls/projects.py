@@ -154,18 +154,23 @@ def _is_path(name: str) -> bool:
 
 
 class Held(Project):
-    """The one project of an editor that holds its files itself, as the page does: beside them stand those of a library, which never change."""
+    """The one project of an editor that holds its files itself, as the page does: beside them stand those of a library, and of other folders before it,
+    which never change."""
 
     has_library = False
 
-    def __init__(self, library: Optional[str]) -> None:
+    def __init__(self, library: Optional[str], before: Sequence[str] = ()) -> None:
+        self._before = before
         super().__init__(library or "")
         self.key = "held"
 
     def refresh(self) -> None:
-        """Looks for the library's files, once."""
-        if self.root and not self._paths:
-            self._paths = _scan(self.folders, True)[0]
+        """Looks for the files of the folders, once."""
+        if not self._paths:
+            self._paths = _scan([folder for folder in (*self._before, *self.folders) if folder], True)[0]
+
+    def _found(self, name: str) -> List[str]:
+        return self._paths.get(name, [])[:1]
 
     def is_stale(self) -> bool:
         """Never."""
@@ -179,8 +184,8 @@ class Held(Project):
 class OneProject:
     """What stands in the place of `Projects` where all documents are of one project, and nothing on disk changes."""
 
-    def __init__(self, library: Optional[str]) -> None:
-        self._project = Held(library)
+    def __init__(self, library: Optional[str], before: Sequence[str] = ()) -> None:
+        self._project = Held(library, before)
 
     def of(self, _: str) -> Project:
         """The project."""

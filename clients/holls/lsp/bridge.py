@@ -9,7 +9,7 @@ import sys
 import threading
 import time
 from dataclasses import dataclass
-from typing import Any, BinaryIO, Callable, Dict, FrozenSet, Iterator, List, Optional, Union
+from typing import Any, BinaryIO, Callable, Dict, FrozenSet, Iterator, List, NoReturn, Optional, Tuple, Union
 
 from holls import server
 from holls.lsp import wire
@@ -75,6 +75,7 @@ class Limits:
     """What an editor may have. With `is_held` it holds its files itself: none is read from disk but those of the library.
 
     So many of its messages wait at most, each of so many bytes; then nothing more of it is read. Behind its end what waits has `last_seconds`.
+    `theories` are folders of theories that stand before the library.
     """
 
     is_held: bool = False
@@ -82,6 +83,7 @@ class Limits:
     messages: int = 1000
     message_bytes: int = wire.MESSAGE_BYTES
     last_seconds: float = 60.0
+    theories: Tuple[str, ...] = ()
 
 
 class Bridge:
@@ -92,9 +94,10 @@ class Bridge:
         self.output, self.named, self.seconds, self.limits = output, named, seconds, limits
         self.room = threading.Semaphore(limits.messages)
         self.options: Dict[str, Any] = {}
-        self.workspace = Workspace(OneProject(limits.library) if limits.is_held else None)
+        self.workspace = Workspace(OneProject(limits.library, limits.theories) if limits.is_held else None)
         self.publisher = Publisher(self)
         self.program: Optional[Program] = None
+        self.probed: Optional[Probed] = None
         self.failure: Optional[str] = None
         self.servers: Dict[str, ProjectServer] = {}
         self.answers = Answers(self)
@@ -347,6 +350,9 @@ class Bridge:
         if self.is_probing:
             return
         self.is_probing = True
+        if self.probed is not None:
+            self.events.put(self.probed)
+            return
         threading.Thread(target=lambda: self.events.put(_probed(self.named)), daemon=True).start()
 
     def _begin(self, probed: Probed) -> None:
@@ -430,14 +436,18 @@ def add_words(words: argparse.ArgumentParser) -> None:
     words.add_argument("--library", metavar="DIR", help="with --held: a folder of theories that its files may import")
 
 
-def main(given: argparse.Namespace) -> int:
+def main(given: argparse.Namespace) -> NoReturn:
     """Serves one editor on standard input and output. Ends the process itself, since a thread may still wait for input."""
     limits = Limits(True, given.library, HELD_MESSAGES, last_seconds=HELD_LAST_SECONDS) if given.held else Limits()
-    bridge = Bridge(sys.stdout.buffer, given.server, given.seconds, limits)
-    threading.Thread(target=_serve, args=(bridge, sys.stdin.buffer), daemon=True).start()
+    serve(sys.stdin.buffer, Bridge(sys.stdout.buffer, given.server, given.seconds, limits))
+
+
+def serve(stream: BinaryIO, bridge: Bridge) -> NoReturn:
+    """Serves the editor whose messages a stream has, and ends the process."""
+    threading.Thread(target=_serve, args=(bridge, stream), daemon=True).start()
     status = 1
     try:
         status = bridge.run()
-        sys.stdout.flush()
+        bridge.output.flush()
     finally:
         os._exit(status)

@@ -1,0 +1,1 @@
+"""`holls serve`: the page for a class (docs/SERVE.md)."""

@@ -1,0 +1,148 @@
+"""`holls serve`: the page for a class, and a course's exercises."""
+
+from __future__ import annotations
+
+import argparse
+import base64
+import functools
+import html
+import os
+import socket
+import zlib
+from pathlib import Path
+from typing import Optional
+from urllib.parse import urlsplit
+
+from holls import carried, server
+from holls.course import layout
+from holls.course.layout import BadCourse, Course
+from holls.lsp import bridge
+from holls.say import complain
+
+try:
+    from aiohttp import web
+except ImportError:
+    web = None
+
+ADDRESS, PORT = "127.0.0.1", 8765
+BACKLOG = 512
+LINK_BYTES = 400_000
+"""The page takes no more from a link."""
+
+_NUMBERS = ("sessions", "each", "seconds", "memory", "processor", "idle", "rate")
+
+
+def add_words(words: argparse.ArgumentParser) -> None:
+    """The command line's words."""
+    words.add_argument("folder", nargs="?", metavar="COURSE", help="a course's folder (docs/COURSES.md): its exercises are at /course")
+    words.add_argument("--server", metavar="PROGRAM", help="the program hol_serve")
+    words.add_argument("--address", default=ADDRESS, help="where it listens (%s: to this machine alone, as a proxy wants it)" % ADDRESS)
+    words.add_argument("--port", type=int, default=PORT, help="the port (%d; 0: any that is free)" % PORT)
+    words.add_argument("--origin", action="append", default=[], metavar="URL",
+                       help="an address under which browsers reach it, as https://hol.example.edu; may be given again")
+    words.add_argument("--behind-proxy", action="store_true", help="who asks is told by the proxy, in X-Forwarded-For")
+    words.add_argument("--library", metavar="DIR", help="the theories that a page may import (those of theories/)")
+    words.add_argument("--sessions", type=int, default=220, help="so many pages are open at once at most (220)")
+    words.add_argument("--each", type=int, default=220, help="so many of one address (220)")
+    words.add_argument("--seconds", type=int, default=20, help="how long one command may take (20)")
+    words.add_argument("--memory", type=int, default=1000, metavar="MEGABYTES", help="how much memory a page's programs may have (1000)")
+    words.add_argument("--processor", type=int, default=1800, metavar="SECONDS", help="how long a page's programs may compute in all (1800)")
+    words.add_argument("--idle", type=int, default=60, metavar="MINUTES", help="a page in which nothing is done for so long is let go (60)")
+    words.add_argument("--rate", type=int, default=200, help="so many requests a second from one address in the long run (200)")
+
+
+def main(given: argparse.Namespace) -> int:
+    """Serves until it is ended. Status 2 where there is nothing to serve."""
+    if web is None:
+        return _complain("holls serve needs aiohttp: apt-get install python3-aiohttp, or pip install 'hol-serve[serve]' "
+                         "(`holls page` serves the page to this machine without it)")
+    if not hasattr(os, "fork"):
+        return _complain("holls serve needs a system that can fork, as Linux does")
+    wrong = next((name for name in _NUMBERS if getattr(given, name) < 1), None)
+    if wrong or not 0 <= given.port < 1 << 16:
+        return _complain("--%s takes a number from 1" % wrong if wrong else "--port takes 0 to 65535")
+    try:
+        return _serve(given)
+    except (BadCourse, server.NoServer) as error:
+        return _complain(str(error))
+
+
+def _complain(words: str) -> int:
+    complain(words)
+    return 2
+
+
+def _serve(given: argparse.Namespace) -> int:
+    from holls.serving import nursery, service  # It needs aiohttp.
+
+    page = carried.folder("page")
+    if not (page / "index.html").is_file():
+        return _complain("the folder page/ is missing beside clients/")
+    bad = next((origin for origin in given.origin if _origin(origin) is None), None)
+    if bad is not None:
+        return _complain("--origin %s: it is an address as https://hol.example.edu, without a path" % bad)
+    library = Path(given.library).resolve() if given.library else carried.folder("theories")
+    course = layout.read(given.folder) if given.folder else None
+    before = [Path(course.theories).resolve()] if course and os.path.isdir(course.theories) else []
+    os.environ[server.MEMORY_VARIABLE] = str(given.memory)
+    words = server.find(given.server)
+    probed = bridge.Probed(bridge.Program(words, server.probe(words)), None)
+    limits = bridge.Limits(True, str(library), bridge.HELD_MESSAGES, service.MESSAGE_BYTES, bridge.HELD_LAST_SECONDS, tuple(map(str, before)))
+    born = nursery.Nursery(functools.partial(_bear, probed, given.seconds, limits), given.processor)
+    try:
+        listening = socket.create_server((given.address, given.port), backlog=BACKLOG)
+    except OSError as error:
+        return _complain("port %d of %s can't be used: %s; another one is taken by --port" % (given.port, given.address, error.strerror or error))
+    port = listening.getsockname()[1]
+    own = ["http://%s%s" % (name, "" if port == 80 else ":%d" % port) for name in dict.fromkeys((given.address, "localhost"))]
+    settings = service.Settings(
+        page, (*before, library), tuple(dict.fromkeys([*own, *map(_origin, given.origin)])), given.sessions, given.each, given.idle * 60.0,
+        given.processor, given.memory, given.rate, given.behind_proxy, exercises(course) if course else None)
+    _raise_files()
+    print("the page is at %s/%s (end it by Ctrl-C)" % (own[0], "course" if course else ""), flush=True)
+    web.run_app(service.Service(settings, born).application(), sock=listening, print=None, access_log=None, shutdown_timeout=service.END_SECONDS)
+    return 0
+
+
+def _origin(address: str) -> Optional[str]:
+    """An address as browsers name it; None where it is none."""
+    try:
+        parts = urlsplit(address.strip().rstrip("/"))
+    except ValueError:
+        return None
+    is_one = parts.scheme in ("http", "https") and parts.netloc and "@" not in parts.netloc and not (parts.path or parts.query or parts.fragment)
+    return "%s://%s" % (parts.scheme, parts.netloc) if is_one else None
+
+
+def _bear(probed: bridge.Probed, seconds: int, limits: bridge.Limits, pair: socket.socket) -> None:
+    """Runs a bridge, in a process of its own."""
+    made = bridge.Bridge(pair.makefile("wb"), None, seconds, limits)
+    made.probed = probed
+    bridge.serve(pair.makefile("rb"), made)
+
+
+def _raise_files() -> None:
+    """Has the process have as many files open as it may: each session has three."""
+    import resource
+
+    hard = resource.getrlimit(resource.RLIMIT_NOFILE)[1]
+    resource.setrlimit(resource.RLIMIT_NOFILE, (hard, hard))
+
+
+def exercises(course: Course) -> str:
+    """The page with a course's exercises: a link for each file, which opens it in the reader's page. It has no script, and no text is taken for markup."""
+    items = "".join("<li><a href=\"%s\">%s</a>: %s</li>\n" % (
+        html.escape("./" + link(given.name, given.text)), html.escape(given.name),
+        html.escape(", ".join(one.name for one in given.exercises))) for given in course.files)
+    title = html.escape(course.title)
+    return ("<!DOCTYPE html>\n<html lang=\"en\"><head><meta charset=\"utf-8\"><title>%s</title><link rel=\"stylesheet\" href=\"style.css\">"
+            "<meta name=\"viewport\" content=\"width=device-width\"></head><body class=\"course\"><main><h1>%s</h1>\n<ol>\n%s</ol>\n"
+            "<p>A link opens the exercise in your browser, which keeps what you write. \"Save\" makes the file that you hand in.</p>"
+            "</main></body></html>\n") % (title, title, items)
+
+
+def link(name: str, text: str) -> str:
+    """The part of a link that opens a theory in the page, as page/store.js reads it. One that is too long for a link opens nothing."""
+    squeezed = zlib.compressobj(9, zlib.DEFLATED, -15)
+    data = squeezed.compress(text.encode("utf-8")[:LINK_BYTES]) + squeezed.flush()
+    return "#theory=%s.%s" % (name, base64.urlsafe_b64encode(data).decode("ascii").rstrip("="))

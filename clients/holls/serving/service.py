@@ -1,0 +1,297 @@
+"""The page's server for many, over aiohttp: files, and for each page that is open a bridge, between which messages are passed on.
+
+It knows nothing of what they say. Nothing is queued in between: what the page doesn't read, the bridge can't write, and the other way round. Each
+limit is told to the page in a sentence, when its socket is closed, and ends that session alone.
+"""
+
+from __future__ import annotations
+
+import asyncio
+from dataclasses import dataclass, field
+from pathlib import Path
+from typing import Dict, List, Optional, Sequence, Tuple
+from urllib.parse import urlsplit
+
+from aiohttp import WSCloseCode, WSMsgType, web
+
+from holls.serving import nursery, usage
+from holls.serving.rates import Bucket, ByAddress
+
+MESSAGE_BYTES = 4 << 20
+"""A longer message, either way, ends the session."""
+BEAT_SECONDS, SEND_SECONDS, END_SECONDS, LOOK_SECONDS = 30, 60, 3, 2.0
+"""So often a page is asked whether it is there; so long it may take to read a message, and a bridge to end; so often it is looked what sessions use."""
+MESSAGES, MOST_MESSAGES = 50, 500
+"""So many messages a second a session may send in the long run, and so many at once. More of them wait."""
+BYTES, MOST_BYTES = 1 << 20, 32 << 20
+"""So many bytes a second a session may send, and be sent, in the long run, and so many at once. More of them wait."""
+FULL, IDLE, ENDED, SPENT = 4000, 4001, 4002, 4003
+"""What a closed socket says: there is no room; nothing was done for long; the bridge has ended; the session has used up what it may."""
+BURST_SECONDS = 30
+"""An address that was quiet may do at once what else it may do in so many seconds."""
+REASON_BYTES = 123
+"""So long is the sentence at most with which a socket is closed."""
+
+_KINDS = {
+    ".html": "text/html; charset=utf-8", ".css": "text/css; charset=utf-8", ".js": "text/javascript; charset=utf-8",
+    ".svg": "image/svg+xml", ".hol": "text/plain; charset=utf-8",
+}
+_POLICY = "default-src 'self'; connect-src 'self' %s; base-uri 'none'; form-action 'none'; frame-ancestors 'none'"
+
+End = Tuple[int, str]
+"""With what code and sentence a session ends."""
+
+
+@dataclass(frozen=True)
+class Settings:
+    """What the server gives. `origins` are the addresses under which browsers know it, `theories` the folders in which theories are looked for, in
+    their order, and `course` is the page with the exercises, where there is a course."""
+
+    page: Path
+    theories: Tuple[Path, ...]
+    origins: Tuple[str, ...]
+    sessions: int
+    each: int
+    idle_seconds: float
+    processor: int
+    memory: int
+    rate: int
+    is_behind_proxy: bool
+    course: Optional[str] = None
+
+
+@dataclass(eq=False)
+class Session:
+    """A page that is open: its socket, its address, the number of its bridge, and what says that it is to end."""
+
+    socket: "web.WebSocketResponse"
+    address: str
+    process: int = 0
+    spent: "asyncio.Future[End]" = field(default_factory=lambda: asyncio.get_running_loop().create_future())
+
+
+class Service:
+    """The server."""
+
+    def __init__(self, settings: Settings, born: nursery.Nursery) -> None:
+        self.settings, self._nursery = settings, born
+        self.sessions: List[Session] = []
+        self._hosts = {urlsplit(origin).netloc for origin in settings.origins}
+        self._policy = _POLICY % " ".join(origin.replace("http", "ws", 1) for origin in settings.origins)
+        self._rates = ByAddress(settings.rate, settings.rate * BURST_SECONDS)
+
+    def application(self) -> "web.Application":
+        """What aiohttp runs."""
+        made = web.Application(middlewares=[_middleware(self._guard)], client_max_size=1 << 16)
+        made.add_routes([
+            web.get("/bridge", self._bridge), web.get("/health", self._health), web.get("/course", self._course), web.get("/", self._file),
+            web.get("/{name}", self._file), web.get("/theories/{name}", self._theory)])
+        made.cleanup_ctx.append(self._looking)
+        made.on_shutdown.append(self._shut)
+        return made
+
+    # Files
+
+    async def _guard(self, request: "web.Request", handler: object) -> "web.StreamResponse":
+        """Lets through who asks for this server, and not too often."""
+        if request.headers.get("Host", "") not in self._hosts:
+            raise web.HTTPForbidden(text="this server isn't known by that name: its --origin says which it has\n")
+        if not self._rates.takes(self._address(request)):
+            raise web.HTTPTooManyRequests(text="too many requests come from your address: wait a little\n", headers={"Retry-After": "5"})
+        return await handler(request)
+
+    def _address(self, request: "web.Request") -> str:
+        """Who asks: behind a proxy what that says last, which nobody else can."""
+        told = request.headers.getall("X-Forwarded-For", []) if self.settings.is_behind_proxy else []
+        return (told[-1].rpartition(",")[2].strip() if told else request.remote or "")[:64]
+
+    async def _file(self, request: "web.Request") -> "web.StreamResponse":
+        return self._answer([self.settings.page], request.match_info.get("name", "index.html"))
+
+    async def _theory(self, request: "web.Request") -> "web.StreamResponse":
+        return self._answer(self.settings.theories, request.match_info["name"])
+
+    def _answer(self, folders: Sequence[Path], name: str) -> "web.StreamResponse":
+        """A file of one of the folders, of the kinds that are served, and of no folder else: its name has no path in it."""
+        kind = _KINDS.get(Path(name).suffix)
+        path = next((folder / name for folder in folders if kind and Path(name).name == name and _is_file(folder / name)), None)
+        if path is None:
+            raise web.HTTPNotFound()
+        return web.Response(body=path.read_bytes(), headers=self._headers(kind))
+
+    def _headers(self, kind: str) -> Dict[str, str]:
+        return {"Content-Type": kind, "Cache-Control": "no-cache", "Content-Security-Policy": self._policy, "X-Content-Type-Options": "nosniff",
+                "Referrer-Policy": "no-referrer"}
+
+    async def _course(self, _: "web.Request") -> "web.StreamResponse":
+        if self.settings.course is None:
+            raise web.HTTPNotFound()
+        return web.Response(text=self.settings.course, headers=self._headers(_KINDS[".html"]))
+
+    async def _health(self, _: "web.Request") -> "web.StreamResponse":
+        return web.json_response({"sessions": len(self.sessions), "room": self.settings.sessions - len(self.sessions)})
+
+    # Sessions
+
+    async def _bridge(self, request: "web.Request") -> "web.StreamResponse":
+        """A session, until one of its ends is gone."""
+        if request.headers.get("Origin") not in self.settings.origins:
+            raise web.HTTPForbidden(text="the page comes from elsewhere: --origin says from where it may come\n")
+        page = web.WebSocketResponse(heartbeat=BEAT_SECONDS, max_msg_size=MESSAGE_BYTES, timeout=END_SECONDS)
+        await page.prepare(request)
+        session = Session(page, self._address(request))
+        refused = self._refused(session.address)
+        if refused:
+            await _close(page, (FULL, refused))
+            return page
+        self.sessions.append(session)
+        try:
+            await self._talk(session)
+        finally:
+            self.sessions.remove(session)
+        return page
+
+    def _refused(self, address: str) -> Optional[str]:
+        """Why there is no room for another session."""
+        if len(self.sessions) >= self.settings.sessions:
+            return "%d pages are open, and there is room for no more: this one tries again by itself" % len(self.sessions)
+        if sum(session.address == address for session in self.sessions) >= self.settings.each:
+            return "%d pages are open from your address, and there may be no more: close one" % self.settings.each
+        return None
+
+    async def _talk(self, session: Session) -> None:
+        page = session.socket
+        try:
+            pair, session.process = self._nursery.bear()
+        except OSError as error:
+            await _close(page, (ENDED, "no program can be started: %s" % (error.strerror or error)))
+            return
+        reader, writer = await asyncio.open_connection(sock=pair)
+        telling = asyncio.ensure_future(_tell(reader, page))
+        hearing = asyncio.ensure_future(_hear(page, writer, self.settings.idle_seconds))
+        try:
+            await asyncio.wait({telling, hearing, session.spent}, return_when=asyncio.FIRST_COMPLETED)
+        finally:
+            end = _end_of(session.spent, hearing, telling)
+            hearing.cancel()
+            if session.spent.done():
+                nursery.kill(session.process)
+            elif not telling.done():
+                writer.write_eof()  # The bridge reads an end, and ends with its program; what it still says is read.
+                await asyncio.wait({telling}, timeout=END_SECONDS)
+            if not reader.at_eof():  # It still has its end of the pair, or a program of its own does much.
+                nursery.kill(session.process)
+            telling.cancel()
+            session.spent.cancel()
+            writer.close()
+            await _close(page, end)
+
+    async def _looking(self, _: "web.Application"):  # noqa: ANN202: aiohttp's way to begin and end something with the server
+        task = asyncio.ensure_future(self._look())
+        yield
+        task.cancel()
+
+    async def _look(self) -> None:
+        """Looks again and again what sessions use, and ends those that use too much."""
+        while True:
+            await asyncio.sleep(LOOK_SECONDS)
+            found = usage.of_groups([session.process for session in self.sessions if session.process])
+            for session in list(self.sessions):
+                words = self._spent(found.get(session.process, usage.Usage()))
+                if words and not session.spent.done():
+                    session.spent.set_result((SPENT, words))
+
+    def _spent(self, used: usage.Usage) -> Optional[str]:
+        """Why a session may use no more."""
+        if used.seconds > self.settings.processor:
+            return "this page has used the %d seconds of the processor that it may have: it begins anew" % self.settings.processor
+        if used.memory > self.settings.memory << 20:
+            return "this page has used the %d MB of memory that it may have: it begins anew" % self.settings.memory
+        return None
+
+    async def _shut(self, _: "web.Application") -> None:
+        for session in self.sessions:
+            if not session.spent.done():
+                session.spent.set_result((WSCloseCode.GOING_AWAY, "the server is started anew"))
+        end = asyncio.get_running_loop().time() + END_SECONDS
+        while self.sessions and asyncio.get_running_loop().time() < end:
+            await asyncio.sleep(0.02)
+
+
+def _middleware(guard):  # noqa: ANN001, ANN202
+    """A method as aiohttp's middleware."""
+    @web.middleware
+    async def called(request: "web.Request", handler: object) -> "web.StreamResponse":
+        return await guard(request, handler)
+    return called
+
+
+def _is_file(path: Path) -> bool:
+    try:
+        return path.is_file()
+    except (OSError, ValueError):
+        return False
+
+
+def _end_of(*tasks: "asyncio.Future[End]") -> End:
+    """With what a session ends: what the first of them says that has ended."""
+    for task in tasks:
+        if task.done() and not task.cancelled() and task.exception() is None:
+            return task.result()
+    return ENDED, "the bridge has ended"
+
+
+async def _close(page: "web.WebSocketResponse", end: End) -> None:
+    if not page.closed:
+        code, words = end
+        await page.close(code=code, message=words.encode("utf-8")[:REASON_BYTES])
+
+
+async def _tell(reader: asyncio.StreamReader, page: "web.WebSocketResponse") -> End:
+    """Hands a bridge's messages to its page. What the page doesn't read, the bridge can't write."""
+    bytes_ = Bucket(BYTES, MOST_BYTES)
+    while True:
+        body = await _body(reader)
+        if body is None:
+            return ENDED, "the bridge has ended: it begins anew"
+        if len(body) > MESSAGE_BYTES:
+            return ENDED, "an answer has more than %d MB: this page begins anew" % (MESSAGE_BYTES >> 20)
+        if page.closed:
+            continue  # The rest is read, so that the bridge comes to its end.
+        await bytes_.wait(len(body))
+        try:
+            await asyncio.wait_for(page.send_str(body.decode("ascii")), SEND_SECONDS)
+        except (asyncio.TimeoutError, ConnectionError):
+            return ENDED, "the page reads nothing"
+
+
+async def _body(reader: asyncio.StreamReader) -> Optional[bytes]:
+    """The next message of a bridge; None at its end."""
+    try:
+        head = await reader.readline()
+        await reader.readline()
+        return await reader.readexactly(int(head.split(b":")[1])) if head else None
+    except (asyncio.IncompleteReadError, ConnectionError):
+        return None
+
+
+async def _hear(page: "web.WebSocketResponse", writer: asyncio.StreamWriter, idle: float) -> End:
+    """Hands a page's messages to its bridge. What the bridge doesn't read, the page can't send."""
+    messages, bytes_ = Bucket(MESSAGES, MOST_MESSAGES), Bucket(BYTES, MOST_BYTES)
+    while True:
+        try:
+            message = await page.receive(timeout=idle)
+        except asyncio.TimeoutError:
+            return IDLE, "nothing was done here for long: the next key begins anew"
+        if message.type == WSMsgType.ERROR or message.type == WSMsgType.CLOSE and message.data == WSCloseCode.MESSAGE_TOO_BIG:
+            return WSCloseCode.MESSAGE_TOO_BIG, "a message has more than %d MB" % (MESSAGE_BYTES >> 20)
+        if message.type != WSMsgType.TEXT:
+            return WSCloseCode.OK, ""
+        body = message.data.encode("utf-8", "replace")
+        await messages.wait(1)
+        await bytes_.wait(len(body))
+        try:
+            writer.write(b"Content-Length: %d\r\n\r\n" % len(body) + body)
+            await writer.drain()
+        except ConnectionError:
+            return ENDED, "the bridge has ended: it begins anew"

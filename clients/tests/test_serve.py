@@ -1,0 +1,315 @@
+"""`holls serve`: the page for a class, over aiohttp where some Python here has it: files, sessions, limits, hostile pages, and that nothing is left behind."""
+
+import base64
+import functools
+import http.client
+import json
+import os
+import pathlib
+import re
+import shutil
+import signal
+import socket
+import subprocess
+import sys
+import tempfile
+import threading
+import time
+import unittest
+import zlib
+
+from holls.course import layout
+from holls.serving import command, usage
+from holls.serving.rates import Bucket, ByAddress
+from holls.websocket import Closed, WebSocket, new_key
+from tests.helpers import HOLLS, ROOT, SECONDS, fake
+from tests.test_page_server import Editor
+
+COURSE = ROOT / "examples" / "course"
+
+
+@functools.lru_cache(maxsize=1)
+def python():
+    """A Python that has aiohttp, if there is one."""
+    for name in (sys.executable, "/usr/bin/python3"):
+        if shutil.which(name) and subprocess.run([name, "-c", "import aiohttp"], capture_output=True).returncode == 0:
+            return name
+    return None
+
+
+class Parts(unittest.TestCase):
+    """What needs no aiohttp."""
+
+    def test_a_bucket_fills_as_time_goes_by(self):
+        now = [0.0]
+        bucket = Bucket(2, 4, lambda: now[0])
+        self.assertEqual([bucket.takes() for _ in range(5)], [True] * 4 + [False])
+        now[0] = 1.0
+        self.assertEqual([bucket.takes() for _ in range(3)], [True, True, False])
+        self.assertEqual(bucket.owes(3), 1.5)
+        now[0] = 100.0
+        self.assertEqual((bucket.owes(4), bucket.owes(2)), (0.0, 1.0))
+
+    def test_addresses_have_their_own_and_the_oldest_is_forgotten(self):
+        rates = ByAddress(0.001, 1)
+        self.assertEqual([rates.takes("a"), rates.takes("a"), rates.takes("b")], [True, False, True])
+        for number in range(10_001):
+            rates.takes(str(number))
+        self.assertTrue(rates.takes("a"))
+
+    def test_addresses_under_which_it_is_known(self):
+        self.assertEqual([command._origin(one) for one in ("https://hol.example.edu/", "http://a:80", "hol.example.edu", "https://a/b", "ftp://a", "https://u@a", "http://[")],
+                         ["https://hol.example.edu", "http://a:80", None, None, None, None, None])
+
+    def test_the_page_of_a_course_has_links_that_hold_the_exercises_and_no_markup_of_a_text(self):
+        course = layout.read(str(COURSE))
+        found = dict(re.findall(r'href="\./#theory=(\w+)\.([\w-]+)"', command.exercises(course)))
+        self.assertEqual(list(found), ["implications", "equations", "quantifiers"])
+        data = found["equations"]
+        self.assertEqual(zlib.decompress(base64.urlsafe_b64decode(data + "=" * (-len(data) % 4)), -15).decode(), course.files[1].text)
+        named = layout.Course("", "<script>", course.files, (), ())
+        self.assertNotIn("<script", command.exercises(named))
+
+    @unittest.skipUnless(os.path.isdir("/proc/self"), "what processes use isn't told here")
+    def test_what_a_group_uses_is_told(self):
+        process = subprocess.Popen([sys.executable, "-c", "while True: pass"], start_new_session=True)
+        try:
+            end = time.monotonic() + SECONDS
+            while usage.of_groups([process.pid])[process.pid].seconds < 0.1 and time.monotonic() < end:
+                time.sleep(0.05)
+            used = usage.of_groups([process.pid, 0])[process.pid]
+            self.assertGreaterEqual(used.seconds, 0.1)
+            self.assertGreater(used.memory, 1 << 20)
+        finally:
+            process.kill()
+            process.wait()
+
+    def test_without_aiohttp_it_is_told_what_to_do(self):
+        ran = subprocess.run([sys.executable, "-c", "import sys; sys.modules['aiohttp'] = None; sys.argv = ['holls', 'serve']; sys.path.insert(0, %r); "
+                              "from holls.__main__ import run; sys.exit(run())" % str(ROOT / "clients")], capture_output=True, timeout=SECONDS)
+        self.assertEqual(ran.returncode, 2)
+        self.assertIn(b"apt-get install python3-aiohttp", ran.stderr)
+
+
+@unittest.skipUnless(python(), "no Python here has aiohttp: holls serve isn't tested")
+class Serve(unittest.TestCase):
+    """Over the fake server."""
+
+    def setUp(self):
+        room = tempfile.TemporaryDirectory()
+        self.addCleanup(room.cleanup)
+        self.room = pathlib.Path(room.name)
+        self.log = self.room / "log"
+
+    def serve(self, *words):
+        command = [python(), str(HOLLS), "serve", str(COURSE), "--port", "0", "--server", fake(self.room, "--log", self.log), *words]
+        self.process = subprocess.Popen(command, stdout=subprocess.PIPE, stderr=subprocess.PIPE)
+        self.addCleanup(self.process.communicate)
+        self.addCleanup(self.process.terminate)
+        told = self.process.stdout.readline().decode()
+        self.host = told.split("http://")[1].split("/")[0]
+
+    def get(self, path, method="GET", **headers):
+        connection = http.client.HTTPConnection(self.host, timeout=SECONDS)
+        self.addCleanup(connection.close)
+        connection.request(method, path, headers={name.replace("_", "-"): value for name, value in headers.items()})
+        return connection.getresponse()
+
+    def socket(self, **headers):
+        """A page's socket, or the status where there is none."""
+        address, port = self.host.split(":")
+        connection = socket.create_connection((address, int(port)), timeout=SECONDS)
+        reader, writer = connection.makefile("rb"), connection.makefile("wb")
+        for one in (connection, reader, writer):
+            self.addCleanup(self.let_go, one)
+        sent = dict({"Host": self.host, "Upgrade": "websocket", "Connection": "Upgrade", "Origin": "http://" + self.host, "Sec-WebSocket-Version": "13",
+                     "Sec-WebSocket-Key": new_key()}, **{name.replace("_", "-"): value for name, value in headers.items()})
+        writer.write(("GET /bridge HTTP/1.1\r\n%s\r\n" % "".join("%s: %s\r\n" % one for one in sent.items())).encode())
+        writer.flush()
+        status = reader.readline().split()[1]
+        while reader.readline().strip():
+            pass
+        return WebSocket(reader, writer, True) if status == b"101" else status
+
+    @staticmethod
+    def let_go(one):
+        try:
+            one.close()
+        except OSError:
+            pass  # What was to be written isn't taken any more.
+
+    def closed(self, page):
+        """The words with which a socket is closed."""
+        try:
+            while True:
+                page.receive()
+        except (Closed, OSError) as error:
+            return str(error)
+
+    def until(self, test):
+        end = time.monotonic() + SECONDS
+        while not test():
+            self.assertLess(time.monotonic(), end, "it didn't come about")
+            time.sleep(0.05)
+
+    def programs(self):
+        """How many programs run."""
+        return len(subprocess.run(["pgrep", "-f", "--", "--log %s" % self.log], stdout=subprocess.PIPE).stdout.split())
+
+    def test_files_and_no_path_that_leaves_their_folders(self):
+        self.serve()
+        for path, kind in (("/", "text/html"), ("/main.js", "text/javascript"), ("/course", "text/html"), ("/theories/week.hol", "text/plain"),
+                           ("/theories/logic.hol", "text/plain")):
+            answer = self.get(path)
+            self.assertEqual((answer.status, answer.getheader("Content-Type").split(";")[0]), (200, kind), path)
+            self.assertIn("default-src 'self'", answer.getheader("Content-Security-Policy"))
+        for path in ("/../README.md", "/%2e%2e/README.md", "/theories/..%2f..%2fREADME.md", "/theories/../hol-course.json", "/theories/%2fetc%2fpasswd", "/hol-course.json",
+                     "/theories/..%2fexercises%2fequations.hol", "/work/ada/equations.hol", "/exercises/equations.hol", "/theories/a%00.hol", "/theories/", "//etc/passwd"):
+            self.assertIn(self.get(path).status, (400, 404), path)
+        self.assertEqual(self.get("/", Host="evil.example").status, 403)
+        self.assertEqual(self.get("/", "POST").status, 405)
+        self.assertEqual(self.socket(Origin="http://evil.example"), b"403")
+        self.assertEqual(self.socket(Host="evil.example"), b"403")
+
+    def test_a_session_has_the_course_s_theories_and_no_other_s(self):
+        self.serve("--origin", "https://hol.example.edu")
+        one, other = Editor(self.socket()), Editor(self.socket(Host="hol.example.edu", Origin="https://hol.example.edu"))
+        one.open("mine", "import week;;\ng N `x = x`;;\ne REFL_TAC;;\nqed;;")
+        self.assertEqual(one.said("mine"), [])
+        other.open("yours", "import mine;;\nimport hol_course;;")
+        self.assertEqual(other.said("yours")[0], "there is no theory mine here: open it, or make a new one of that name")
+        self.assertEqual(json.load(self.get("/health"))["sessions"], 2)
+
+    def test_sessions_have_limits_that_are_told(self):
+        self.serve("--sessions", "3", "--each", "2", "--behind-proxy")
+        first, second = (Editor(self.socket(X_Forwarded_For="6.6.6.6, 1.1.1.1")) for _ in range(2))
+        self.assertIn("2 pages are open from your address", self.closed(self.socket(X_Forwarded_For="7.7.7.7, 1.1.1.1")))
+        third = Editor(self.socket(X_Forwarded_For="2.2.2.2"))
+        self.assertIn("3 pages are open, and there is room for no more", self.closed(self.socket(X_Forwarded_For="3.3.3.3")))
+        first.socket.close()
+        self.until(lambda: json.load(self.get("/health"))["room"] == 1)
+        self.assertIsInstance(Editor(self.socket(X_Forwarded_For="3.3.3.3")).ask("hol/manual"), dict)
+        self.assertIsInstance(second.ask("hol/manual"), dict)
+        self.assertIsInstance(third.ask("hol/manual"), dict)
+
+    def test_an_address_that_asks_too_often_waits_and_others_don_t(self):
+        self.serve("--rate", "1", "--behind-proxy")
+        statuses = [self.get("/health", X_Forwarded_For="1.1.1.1").status for _ in range(60)]
+        self.assertIn(429, statuses)
+        self.assertEqual(self.get("/health", X_Forwarded_For="2.2.2.2").status, 200)
+
+    @unittest.skipUnless(shutil.which("pgrep") and os.path.isdir("/proc/self"), "pgrep or /proc isn't here")
+    def test_what_uses_too_much_is_ended_with_its_program_and_told_why(self):
+        self.serve("--processor", "1")
+        page = self.socket()
+        editor = Editor(page)
+        editor.open("A", "g N `x = x`;;\ne REFL_TAC;;\n" * 400)
+        for version in range(200):
+            editor.tell("textDocument/didChange", textDocument={"uri": "hol:/A.hol", "version": version + 1},
+                        contentChanges=[{"text": "g N%d `x = x`;;\ne REFL_TAC;;\n" % version * 400}])
+        self.assertIn("this page has used the 1 seconds of the processor", self.closed(page))
+        self.until(lambda: not self.programs())
+        self.assertIsInstance(Editor(self.socket()).ask("hol/manual"), dict)
+
+    @unittest.skipUnless(shutil.which("pgrep"), "pgrep isn't installed")
+    def test_nothing_is_left_behind(self):
+        """A program that hangs ends with its page; and all end where the server is ended, or killed."""
+        for end in ("page", signal.SIGTERM, signal.SIGKILL):
+            with self.subTest(end):
+                self.log = self.room / ("log%s" % end)
+                self.serve()
+                editor = Editor(self.socket())
+                editor.open("A", "g N `loop`;;\ne HANG_TAC;;\n")
+                self.until(lambda: self.log.is_file() and "HANG_TAC" in self.log.read_text())
+                self.assertGreater(self.programs(), 0)
+                if end == "page":
+                    editor.socket.close()
+                else:
+                    self.process.send_signal(end)
+                self.until(lambda: not self.programs())
+                if end == signal.SIGTERM:
+                    self.assertEqual(self.process.wait(SECONDS), 0)
+
+    def test_a_class_of_twenty_with_three_hostile_pages(self):
+        """Seventeen type a key again and again and see their goals, whatever the three do."""
+        self.serve("--sessions", "20")
+        over = threading.Event()
+        hostile = [threading.Thread(target=work, args=(over,), daemon=True) for work in (self.flood, self.unread, self.too_long)]
+        pages = [Editor(self.socket()) for _ in range(17)]
+        for one in hostile:
+            one.start()
+        for number, one in enumerate(pages):
+            one.open("E%d" % number, "g N `x = x`;;\ne REFL_TAC;;\nqed;;\n")
+        for version in range(1, 4):
+            for number, one in enumerate(pages):
+                one.tell("textDocument/didChange", textDocument={"uri": "hol:/E%d.hol" % number, "version": version},
+                         contentChanges=[{"text": "g N%d `x = x`;;\ne REFL_TAC;;\nqed;;\n" % version}])
+        for number, one in enumerate(pages):
+            self.assertEqual(one.said("E%d" % number), [])
+            goals = one.ask("proof/goals", textDocument={"uri": "hol:/E%d.hol" % number, "version": 3}, position={"line": 0, "character": 3})
+            self.assertIn("x = x", json.dumps(goals))
+        over.set()
+        for one in hostile:
+            one.join(SECONDS)
+        self.assertIsNone(self.process.poll())
+
+    def flood(self, over):
+        """Changes a long text as fast as it can."""
+        try:
+            page = Editor(self.socket())
+            page.open("F", "")
+            version = 0
+            while not over.is_set():
+                version += 1
+                page.tell("textDocument/didChange", textDocument={"uri": "hol:/F.hol", "version": version},
+                          contentChanges=[{"text": "g F%d `x = x`;;\n" % version * 2000}])
+        except (Closed, OSError):
+            pass
+
+    def unread(self, over):
+        """Asks, and reads no answer."""
+        page = self.socket()
+        Editor(page)
+        page._writer.raw._sock.settimeout(1)
+        while not over.is_set():
+            try:
+                page.send(b'{"jsonrpc":"2.0","id":1,"method":"hol/manual","params":{}}')
+            except OSError:
+                time.sleep(0.1)
+
+    def too_long(self, over):
+        """Sends messages of more than is taken, again and again."""
+        while not over.is_set():
+            try:
+                page = self.socket()
+                if isinstance(page, WebSocket):
+                    page.send(b"[" * (5 << 20))
+            except (Closed, OSError):
+                pass
+            time.sleep(0.5)
+
+    def test_a_message_that_is_too_long_ends_its_session_alone(self):
+        self.serve()
+        other, page = Editor(self.socket()), self.socket()
+        try:
+            page.send(b"x" * (5 << 20))
+        except OSError:
+            pass  # It was closed before all was written.
+        self.closed(page)
+        for text in (b"", b"x", b"[]", b'{"id": 1}', b'{"method": 7, "id": []}', b"[" * 100000):
+            nonsense = self.socket()
+            nonsense.send(text)
+            nonsense.close()
+        self.assertIsInstance(other.ask("hol/manual"), dict)
+
+    def test_words_that_fail(self):
+        for words, told in ((["--sessions", "0"], b"--sessions takes a number from 1"), (["--origin", "hol.example.edu"], b"--origin hol.example.edu"),
+                            (["--server", "/no/such"], b"no program is at"), ([str(self.room)], b"a course's exercises stand there")):
+            given = words if "--server" in words else [*words, "--server", fake(self.room)]
+            ran = subprocess.run([python(), str(HOLLS), "serve", *given], capture_output=True, timeout=SECONDS)
+            self.assertEqual((ran.returncode, ran.stdout), (2, b""))
+            self.assertIn(told, ran.stderr)
+
+
+if __name__ == "__main__":
+    unittest.main()
