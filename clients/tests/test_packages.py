@@ -14,6 +14,7 @@ from holls.graph import share_notation
 from holls.lsp import features
 from holls.packages.parts import Part
 from tests.helpers import BUILT, ROOT
+from tests.random_declarations import Declarations
 
 IMPORT = "import packages;;\n"
 LIBRARY = {}
@@ -281,18 +282,33 @@ class Sorry(unittest.TestCase):
         self.assertEqual([one["name"] for one in features.symbols(read("g A `T`;;\nsorry;;\n"))], ["A"])
 
 
+def reached(commands):
+    """Commands of random functions without the clauses that aren't reached."""
+    while True:
+        file = read(";;\n".join(commands) + ";;\n")
+        found = next((one for one in findings(file) if "no argument reaches" in one.text), None)
+        if found is None:
+            return commands
+        parts = commands[-1].split("`")
+        head = file.lines.text[found.start:found.end]
+        parts[-2] = " /\\ ".join(one for one in parts[-2].split(" /\\ ") if not one.startswith(head))
+        commands = commands[:-1] + ["`".join(parts)]
+
+
 def checked(text, *words):
-    """The status of a check of a file that imports the theory of packages, and what it says."""
+    """The status of a check of a file that imports the theory of packages, and what it says; or of several files."""
     with tempfile.TemporaryDirectory() as folder:
         for name in LIBRARY or [file.theory.name for file in library()]:
             os.symlink(str(ROOT / "theories" / (name + ".hol")), os.path.join(folder, name + ".hol"))
-        path = pathlib.Path(folder) / "own.hol"
-        path.write_text(IMPORT + text)
+        texts = [text] if isinstance(text, str) else text
+        paths = [pathlib.Path(folder) / ("own%s.hol" % (number or "")) for number in range(len(texts))]
+        for path, one in zip(paths, texts):
+            path.write_text(IMPORT + one)
         parser = check.argparse.ArgumentParser()
         check.add_words(parser)
         said = io.StringIO()
         with redirect_stdout(said):
-            status = check.main(parser.parse_args(["--server", str(BUILT), "--jobs", "1", *words, str(path)]))
+            status = check.main(parser.parse_args(["--server", str(BUILT), "--jobs", "1", *words, *map(str, paths)]))
         return status, said.getvalue()
 
 
@@ -321,3 +337,11 @@ class OverTheProgram(unittest.TestCase):
         self.assertIn("axiom:HARD", rests["LATER"].split("rests on")[1])
         for name in ("COLOURS", "exp_RECURSION", "exp_INJECTIVE", "tree_DISTINCT", "VAL", "GCD", "FIB", "MAJ", "STAR_CASES", "EV_STRONG_INDUCT"):
             self.assertNotIn("axiom", rests[name])
+
+    def test_random_declarations_are_accepted(self):
+        """So many as HOLLS_DECLARATIONS says, by the seed HOLLS_SEED."""
+        number, seed = int(os.environ.get("HOLLS_DECLARATIONS", "48")), int(os.environ.get("HOLLS_SEED", "1"))
+        made = [reached(commands) for commands in Declarations(seed).some(number)]
+        texts = [";;\n".join(one for commands in made[at:at + 12] for one in commands) + ";;\n" for at in range(0, number, 12)]
+        status, said = checked(texts, "--alone", "--no-axioms")
+        self.assertEqual(status, 0, said)
