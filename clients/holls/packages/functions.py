@@ -13,7 +13,7 @@ from typing import Dict, List, Mapping, NamedTuple, Optional, Sequence, Set, Tup
 from holls.packages import measures
 from holls.packages.calls import calls
 from holls.packages.clauses import Clause, ClauseReader, Function, error
-from holls.packages.datatypes import argument_names
+from holls.packages.datatypes import RESERVED, argument_names
 from holls.packages.matching import (MOST_LEAVES, Decisions, case_term, constructor_types, is_shadowed, leaf_statement, matched, splits)
 from holls.packages.numerals import RULES, norm, of_numeral
 from holls.packages.output import HIDDEN, PUBLIC, Output, Steps, conjuncts
@@ -98,6 +98,8 @@ def _parts(text: str, found: List[Word]) -> Tuple[Word, Optional[Measure], Word]
     if not plain or not quoted or not found[-1].is_quoted or len(found) < 3:
         raise usage(text, FORM)
     name_of(plain[0], FORM, text)
+    if plain[0].text in RESERVED:
+        raise Misread(plain[0].start, plain[0].end, "`%s` is a reserved word, and no theorem can have its name" % plain[0].text)
     if [one.text for one in plain[1:]] == [] and len(quoted) == 1:
         return plain[0], None, quoted[0]
     is_measured = len(plain) > 1 and plain[1].text == "by_measure" and found[2] is plain[1] and len(quoted) > 1
