@@ -1,6 +1,6 @@
 //! A theory under way.
 ghost use Rattle.std.specs.Prelude.{◌≡◌, ◌≤◌, ◌<◌, ◌+◌, ◌++◌, true, [], List, IfOk, IfSome, OnOk, map, take, drop, length};
-ghost use Rattle.hol_document.specs.RunnerView.{setup_of, ran_of};
+ghost use Rattle.hol_document.specs.RunnerView.{setup_of, ran_of, GoesOn};
 ghost use Rattle.hol_exec.specs.Setup.{SetupValue};
 ghost use Rattle.hol_exec.specs.StateValue.{StateValue, EndedTheory, AreTheories, start};
 ghost use Rattle.hol_document.specs.Alike.{AreAlike, EachImportsAlike, no_drift};
@@ -152,8 +152,7 @@ fn settle_each(
     ensures entries { IfOk result (λ at. at < length slots.now → growing.new.drift.entries ≡ true) }
     ensures proof { IfOk result (λ at. at < length slots.now → growing.new.drift.proof ≡ true) }
     ensures past { IfOk result (λ at. at < length slots.now → until ≤ at) }
-    ensures setup { setup_of runner.new ≡ setup_of runner.old }
-    ensures rises { ran_of runner.old ≤ ran_of runner.new }
+    ensures goes { GoesOn runner.old runner.new }
 {
     for (at, slot) in slots.iter().enumerate() {
         if at >= until && growing.drift.is_none() {
@@ -190,8 +189,7 @@ pub(crate) fn redo(
     ensures slots { IfOk result (λ r. HaveAdded (setup_of runner.old) (map ended_of earlier.now) growing.state (drop from theory.now.slots) (ran_of runner.old) (ran_of runner.new)
         (map (λ x. x.value) growing.slots.items) r.theory.slots r.theory.last) }
     ensures same { IfOk result (λ r. r.is_same ≡ true → r.theory.last.entries ≡ theory.now.last.entries) }
-    ensures setup { setup_of runner.new ≡ setup_of runner.old }
-    ensures rises { ran_of runner.old ≤ ran_of runner.new }
+    ensures goes { GoesOn runner.old runner.new }
 {
     promise_each(earlier);
     let mut growing = growing;

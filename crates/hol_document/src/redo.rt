@@ -1,7 +1,7 @@
 //! A theory after an edit in it, and the theories after that.
 ghost use Rattle.std.specs.Prelude.{◌≡◌, ◌≤◌, ◌<◌, ◌+◌, ◌++◌, ◌∷◌, true, false, [], List, IfOk, OnOk, Some, None, map, drop, length, slice_set, string_bytes, bytes_eq};
 ghost use Rattle.std.specs.List.{insert, list_any, remove};
-ghost use Rattle.hol_document.specs.RunnerView.{setup_of, ran_of};
+ghost use Rattle.hol_document.specs.RunnerView.{setup_of, ran_of, Stays, GoesOn};
 ghost use Rattle.hol_exec.specs.CommandText.{Direct};
 ghost use Rattle.hol_exec.specs.CommandView.{direct_text};
 ghost use Rattle.hol_exec.specs.OutcomeValue.{after};
@@ -47,8 +47,7 @@ pub(crate) fn edited(
     ensures edited { IfOk result (λ r. IsEdited (setup_of runner.old) (map ended_of earlier.now) (edited_texts edit.now at (texts_of theory.now.slots)) (rows_beside edit.now at (map Some (rows_of theory.now.slots)))
         (ran_of runner.old) (ran_of runner.new) r.theory.slots r.theory.last) }
     ensures same { IfOk result (λ r. r.is_same ≡ true → r.theory.last.entries ≡ theory.now.last.entries) }
-    ensures setup { setup_of runner.new ≡ setup_of runner.old }
-    ensures rises { ran_of runner.old ≤ ran_of runner.new }
+    ensures goes { GoesOn runner.old runner.new }
 {
     match edit {
         Edit::Insert(line) => inserted(alloc, runner, earlier, theory, line, at),
@@ -72,8 +71,7 @@ fn inserted(
     ensures edited { IfOk result (λ r. IsEdited (setup_of runner.old) (map ended_of earlier.now) (insert (texts_of theory.now.slots) at line.now.value.text) (insert (map Some (rows_of theory.now.slots)) at None)
         (ran_of runner.old) (ran_of runner.new) r.theory.slots r.theory.last) }
     ensures same { IfOk result (λ r. r.is_same ≡ true → r.theory.last.entries ≡ theory.now.last.entries) }
-    ensures setup { setup_of runner.new ≡ setup_of runner.old }
-    ensures rises { ran_of runner.old ≤ ran_of runner.new }
+    ensures goes { GoesOn runner.old runner.new }
 {
     promise_each(earlier);
     let mut growing = front(alloc, earlier, theory, at)?;
@@ -96,8 +94,7 @@ fn replaced(
     ensures edited { IfOk result (λ r. IsEdited (setup_of runner.old) (map ended_of earlier.now) (slice_set (texts_of theory.now.slots) at line.now.value.text) (slice_set (map Some (rows_of theory.now.slots)) at None)
         (ran_of runner.old) (ran_of runner.new) r.theory.slots r.theory.last) }
     ensures same { IfOk result (λ r. r.is_same ≡ true → r.theory.last.entries ≡ theory.now.last.entries) }
-    ensures setup { setup_of runner.new ≡ setup_of runner.old }
-    ensures rises { ran_of runner.old ≤ ran_of runner.new }
+    ensures goes { GoesOn runner.old runner.new }
 {
     promise_each(earlier);
     let mut growing = front(alloc, earlier, theory, at)?;
@@ -126,8 +123,7 @@ fn removed(
     ensures edited { IfOk result (λ r. IsEdited (setup_of runner.old) (map ended_of earlier.now) (remove (texts_of theory.now.slots) at) (remove (map Some (rows_of theory.now.slots)) at)
         (ran_of runner.old) (ran_of runner.new) r.theory.slots r.theory.last) }
     ensures same { IfOk result (λ r. r.is_same ≡ true → r.theory.last.entries ≡ theory.now.last.entries) }
-    ensures setup { setup_of runner.new ≡ setup_of runner.old }
-    ensures rises { ran_of runner.old ≤ ran_of runner.new }
+    ensures goes { GoesOn runner.old runner.new }
 {
     let mut growing = front(alloc, earlier, theory, at)?;
     leave_out(runner, &theory.slots()[at], &mut growing)?;
@@ -146,8 +142,7 @@ fn insert(
     ensures put { OnOk result ((slot : SlotValue) × (map (λ x. x.value) growing.new.slots.items ≡ map (λ x. x.value) growing.old.slots.items ++ slot ∷ [])
         × IsPut (setup_of runner.old) (map ended_of earlier.now) growing.old.state line.now.value.text (ran_of runner.old) (ran_of runner.new) slot growing.new.state) }
     ensures alike { OnOk result (AreAlike growing.new.drift growing.old.state growing.new.state) }
-    ensures setup { setup_of runner.new ≡ setup_of runner.old }
-    ensures rises { ran_of runner.old ≤ ran_of runner.new }
+    ensures goes { GoesOn runner.old runner.new }
 {
     let before = growing.state.newest()?;
     let kept = to_keep(alloc, growing)?;
@@ -172,8 +167,7 @@ fn replace(
     ensures put { OnOk result ((slot : SlotValue) × (map (λ x. x.value) growing.new.slots.items ≡ map (λ x. x.value) growing.old.slots.items ++ slot ∷ [])
         × IsPut (setup_of runner.old) (map ended_of earlier.now) growing.old.state line.now.value.text (ran_of runner.old) (ran_of runner.new) slot growing.new.state) }
     ensures alike { OnOk result (AreAlike growing.new.drift (after growing.old.state old.now.row.outcome) growing.new.state) }
-    ensures setup { setup_of runner.new ≡ setup_of runner.old }
-    ensures rises { ran_of runner.old ≤ ran_of runner.new }
+    ensures goes { GoesOn runner.old runner.new }
 {
     let kept = to_keep(alloc, growing)?;
     let slot = run(alloc, runner, earlier, line, kept, &mut growing.state)?;
@@ -191,8 +185,7 @@ fn leave_out(runner: &mut Runner, old: &Slot, growing: &mut Growing) -> Result<(
     ensures slots { growing.new.slots.items ≡ growing.old.slots.items }
     ensures state { growing.new.state ≡ growing.old.state }
     ensures alike { OnOk result (AreAlike growing.new.drift (after growing.old.state old.now.row.outcome) growing.new.state) }
-    ensures setup { setup_of runner.new ≡ setup_of runner.old }
-    ensures ran { ran_of runner.new ≡ ran_of runner.old }
+    ensures stays { Stays runner.old runner.new }
 {
     let after = growing.state.newest()?;
     let is_open = is_any_open(old.opened(), &after);
@@ -218,8 +211,7 @@ pub(crate) fn follow(
 ) -> Result<(), AllocError>
     requires { (before : List EndedTheory) × AreStanding (setup_of runner.old) before theories.now × EndAlike (map (λ name. string_bytes name.value) names.items) before (map ended_of done.old.items) }
     ensures follow { OnOk result (HaveFollowed (setup_of runner.old) done.old.items theories.now (ran_of runner.old) (ran_of runner.new) done.new.items) }
-    ensures setup { setup_of runner.new ≡ setup_of runner.old }
-    ensures rises { ran_of runner.old ≤ ran_of runner.new }
+    ensures goes { GoesOn runner.old runner.new }
 {
     let mut names = names;
     for theory in theories {
@@ -259,8 +251,7 @@ fn following(
     ensures edited { IfOk result (λ r. IsEdited (setup_of runner.old) (map ended_of earlier.now) (texts_of theory.now.slots) (map Some (rows_of theory.now.slots))
         (ran_of runner.old) (ran_of runner.new) r.theory.slots r.theory.last) }
     ensures same { IfOk result (λ r. r.is_same ≡ true → r.theory.last.entries ≡ theory.now.last.entries) }
-    ensures setup { setup_of runner.new ≡ setup_of runner.old }
-    ensures rises { ran_of runner.old ≤ ran_of runner.new }
+    ensures goes { GoesOn runner.old runner.new }
 {
     let until = past_imports(theory.slots(), names);
     if until == 0 {

@@ -25,7 +25,7 @@ pub(crate) struct Runner {
 }
 
 impl Runner {
-    ghost use Rattle.std.specs.Prelude.{◌≡◌, ◌≤◌, ◌+◌, List, IfOk, [], map};
+    ghost use Rattle.std.specs.Prelude.{◌≡◌, ◌≤◌, List, IfOk, [], map};
     ghost use Rattle.hol_exec.specs.CommandText.{Local};
     ghost use Rattle.hol_exec.specs.CommandView.{local_text};
     ghost use Rattle.hol_exec.specs.Local.{IsLocalOutcome};
@@ -34,7 +34,7 @@ impl Runner {
     ghost use Rattle.hol_exec.specs.ReadsValue.{AreKeyed};
     ghost use Rattle.hol_exec.specs.StateValue.{StateValue, EndedTheory};
     ghost use Rattle.hol_theory.specs.Constants.{constant_names};
-    ghost use Rattle.hol_document.specs.RunnerView.{setup_of, ran_of};
+    ghost use Rattle.hol_document.specs.RunnerView.{setup_of, ran_of, Stays, RunsAtMost};
     ghost use Rattle.hol_document.specs.Slots.{IsSlot, AreSlots};
 
     /// By this meter, with room for so many outcomes.
@@ -78,9 +78,7 @@ impl Runner {
         requires command { line.now.value ≡ read.Reads (Local (local_text command.now)) }
         requires keyed { AreKeyed (local_text command.now) reads.now.value }
         ensures outcome { IfOk result (λ r. IsLocalOutcome (setup_of self.old) (constant_names env.now) (local_text command.now) reads.now.value (record { outcome = r.0.value; tested = r.1.value })) }
-        ensures setup { setup_of self.new ≡ setup_of self.old }
-        ensures few { ran_of self.new ≤ ran_of self.old + 1 }
-        ensures rises { ran_of self.old ≤ ran_of self.new }
+        ensures few { RunsAtMost self.old self.new result (λ _. 1) }
     {
         if let Some(known) = self.cache.find(line, command, reads, env)? {
             return Ok(known);
@@ -109,8 +107,7 @@ impl Runner {
     /// The slot's outcome has left it.
     pub(crate) fn leave(&mut self, slot: &Slot)
         requires { (before : List EndedTheory) × (s : StateValue) × IsSlot (setup_of self.old) before s slot.now }
-        ensures setup { setup_of self.new ≡ setup_of self.old }
-        ensures ran { ran_of self.new ≡ ran_of self.old }
+        ensures { Stays self.old self.new }
     {
         self.cache.put(slot);
     }
@@ -118,8 +115,7 @@ impl Runner {
     /// The outcomes of all these slots have left them.
     pub(crate) fn leave_each(&mut self, slots: &[Rc<Slot>])
         requires { (before : List EndedTheory) × (s last : StateValue) × AreSlots (setup_of self.old) before s (map (λ x. x.value) slots.now) last }
-        ensures setup { setup_of self.new ≡ setup_of self.old }
-        ensures ran { ran_of self.new ≡ ran_of self.old }
+        ensures { Stays self.old self.new }
     {
         for slot in slots {
             self.leave(slot);

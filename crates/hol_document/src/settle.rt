@@ -1,11 +1,11 @@
 //! What a text comes to at a state: its slot from before, where that stands there as well, or one that is made by running the text.
-ghost use Rattle.std.specs.Prelude.{◌≡◌, ◌≤◌, ◌+◌, List, [], true, false, IfOk, IfSome, Some, None, map};
+ghost use Rattle.std.specs.Prelude.{◌≡◌, List, [], true, false, IfOk, IfSome, Some, None, map};
 ghost use Rattle.std.specs.Option.{option_map};
 ghost use Rattle.hol_exec.specs.At.{IsOutcomeAt};
 ghost use Rattle.hol_exec.specs.CommandView.{local_text, direct_text};
 ghost use Rattle.hol_exec.specs.CommandText.{LocalText, Local, Direct};
 ghost use Rattle.hol_exec.specs.Tested.{agrees};
-ghost use Rattle.hol_document.specs.RunnerView.{setup_of, ran_of};
+ghost use Rattle.hol_document.specs.RunnerView.{setup_of, RunsAtMost};
 ghost use Rattle.hol_exec.specs.OutcomeValue.{after};
 ghost use Rattle.hol_exec.specs.Reading as read;
 ghost use Rattle.hol_exec.specs.Reading.{IsRead};
@@ -49,9 +49,7 @@ fn answered(
 ) -> Result<Answer, AllocError>
     ensures read { IsRead line.now.text line.now.value }
     ensures is { IfOk result (λ a. IsAnswer (setup_of runner.old) (map ended_of earlier.now) state.now line.now.value (option_map (λ r. r.value) a.reads) a.tested.value a.outcome.value) }
-    ensures setup { setup_of runner.new ≡ setup_of runner.old }
-    ensures rises { ran_of runner.old ≤ ran_of runner.new }
-    ensures few { IfOk result (λ a. ran_of runner.new ≤ ran_of runner.old + counts_beside None (option_map (λ r. r.value) a.reads)) }
+    ensures few { RunsAtMost runner.old runner.new result (λ a. counts_beside None (option_map (λ r. r.value) a.reads)) }
 {
     match line.parsed() {
         Parsed::Read(command) => answer_of_command(alloc, runner, earlier, line, command, state),
@@ -83,9 +81,7 @@ fn answer_of_command(
 ) -> Result<Answer, AllocError>
     requires { line.now.value ≡ read.Reads command.now }
     ensures is { IfOk result (λ a. IsAnswer (setup_of runner.old) (map ended_of earlier.now) state.now (read.Reads command.now) (option_map (λ r. r.value) a.reads) a.tested.value a.outcome.value) }
-    ensures setup { setup_of runner.new ≡ setup_of runner.old }
-    ensures rises { ran_of runner.old ≤ ran_of runner.new }
-    ensures few { IfOk result (λ a. ran_of runner.new ≤ ran_of runner.old + counts_beside None (option_map (λ r. r.value) a.reads)) }
+    ensures few { RunsAtMost runner.old runner.new result (λ a. counts_beside None (option_map (λ r. r.value) a.reads)) }
 {
     match command.node() {
         CommandNode::Local(command) => answer_of_local(alloc, runner, line, command, state),
@@ -105,9 +101,7 @@ fn answer_of_local(
 ) -> Result<Answer, AllocError>
     requires { line.now.value ≡ read.Reads (Local (local_text command.now)) }
     ensures is { IfOk result (λ a. (earlier : List EndedTheory) → IsAnswer (setup_of runner.old) earlier state.now (read.Reads (Local (local_text command.now))) (option_map (λ r. r.value) a.reads) a.tested.value a.outcome.value) }
-    ensures setup { setup_of runner.new ≡ setup_of runner.old }
-    ensures rises { ran_of runner.old ≤ ran_of runner.new }
-    ensures few { IfOk result (λ a. ran_of runner.new ≤ ran_of runner.old + counts_beside None (option_map (λ r. r.value) a.reads)) }
+    ensures few { RunsAtMost runner.old runner.new result (λ a. counts_beside None (option_map (λ r. r.value) a.reads)) }
 {
     let keys = CommandKeys::of(alloc, command)?;
     let reads = Rc::new(alloc, Reads::of(alloc, command, &keys, state)?)?;
@@ -166,9 +160,7 @@ pub(crate) fn run(
     ensures text { IfOk result (λ new. new.value.text ≡ line.now.value.text) }
     ensures value { IfOk result (λ new. new.value.row.value ≡ line.now.value.value) }
     ensures state { IfOk result (λ new. state.new ≡ after state.old new.value.row.outcome) }
-    ensures setup { setup_of runner.new ≡ setup_of runner.old }
-    ensures rises { ran_of runner.old ≤ ran_of runner.new }
-    ensures few { IfOk result (λ new. ran_of runner.new ≤ ran_of runner.old + counts None new.value.row) }
+    ensures few { RunsAtMost runner.old runner.new result (λ new. counts None new.value.row) }
 {
     let answer = answered(alloc, runner, earlier, line, state)?;
     carried_out(alloc, line, answer, kept, state)
@@ -328,9 +320,7 @@ fn run_again(
     ensures state { IfOk result (λ new. state.new ≡ after state.old new.value.row.outcome) }
     ensures alike { IfOk result (λ new. (s : StateValue) → slot.now.opened ≡ newest_of (after s slot.now.row.outcome).proof → AreAlike drift.old s state.old
         → AreAlike drift.new (after s slot.now.row.outcome) (after state.old new.value.row.outcome)) }
-    ensures setup { setup_of runner.new ≡ setup_of runner.old }
-    ensures rises { ran_of runner.old ≤ ran_of runner.new }
-    ensures few { IfOk result (λ new. ran_of runner.new ≤ ran_of runner.old + counts None new.value.row) }
+    ensures few { RunsAtMost runner.old runner.new result (λ new. counts None new.value.row) }
 {
     let new = run(alloc, runner, earlier, slot.line(), kept, state)?;
     drift.follow(slot.outcome(), new.outcome(), is_open_after(slot, &new))?;
@@ -354,9 +344,7 @@ pub(crate) fn settle(
     ensures state { IfOk result (λ new. state.new ≡ after state.old new.value.row.outcome) }
     ensures alike { IfOk result (λ new. (before : List EndedTheory) (s : StateValue) → IsSlot (setup_of runner.old) before s slot.now.value → AreAlike drift.old s state.old
         → AreAlike drift.new (after s slot.now.value.row.outcome) (after state.old new.value.row.outcome)) }
-    ensures setup { setup_of runner.new ≡ setup_of runner.old }
-    ensures rises { ran_of runner.old ≤ ran_of runner.new }
-    ensures few { IfOk result (λ new. ran_of runner.new ≤ ran_of runner.old + counts (Some slot.now.value.row) new.value.row) }
+    ensures few { RunsAtMost runner.old runner.new result (λ new. counts (Some slot.now.value.row) new.value.row) }
 {
     let kept = kept_again(alloc, slot, state)?;
     if keeps(slot, state, drift) {

@@ -1,7 +1,7 @@
 //! The theories that stand.
 ghost use Rattle.std.specs.Prelude.{◌≡◌, ◌≤◌, ◌<◌, [], IfOk, map, length, slice_index_or, slice_set, position, bytes_eq};
 ghost use Rattle.std.specs.List.{insert, remove};
-ghost use Rattle.hol_document.specs.RunnerView.{setup_of, ran_of};
+ghost use Rattle.hol_document.specs.RunnerView.{setup_of, ran_of, GoesOn};
 ghost use Rattle.hol_document.specs.Affected.{RunsAffected, AddsTheory, DropsTheory};
 ghost use Rattle.hol_document.specs.Documents.{Documents, find_theory, no_theory};
 ghost use Rattle.hol_document.specs.Settled.{FitsAt, edited_text, edit_place};
@@ -91,8 +91,7 @@ impl Theories {
         ensures same { IfOk result (λ t. t.setup ≡ self.now.setup) }
         ensures cache { IfOk result (λ t. t.cache ≡ self.now.cache) }
         ensures affected { IfOk result (λ t. RunsAffected self.now t (AddsTheory at) (ran_of runner.old) (ran_of runner.new)) }
-        ensures setup { setup_of runner.new ≡ setup_of runner.old }
-        ensures rises { ran_of runner.old ≤ ran_of runner.new }
+        ensures goes { GoesOn runner.old runner.new }
     {
         let mut done = copies(alloc, &self.standing[..at])?;
         let name = Rc::new(alloc, String::from_str(alloc, name)?)?;
@@ -122,8 +121,7 @@ impl Theories {
         ensures same { IfOk result (λ t. t.setup ≡ self.now.setup) }
         ensures cache { IfOk result (λ t. t.cache ≡ self.now.cache) }
         ensures affected { IfOk result (λ t. RunsAffected self.now t (DropsTheory i) (ran_of runner.old) (ran_of runner.new)) }
-        ensures setup { setup_of runner.new ≡ setup_of runner.old }
-        ensures rises { ran_of runner.old ≤ ran_of runner.new }
+        ensures goes { GoesOn runner.old runner.new }
     {
         let mut done = copies(alloc, &self.standing[..i])?;
         let theory = &self.standing[i];
@@ -154,8 +152,7 @@ impl Theories {
         ensures same { IfOk result (λ t. t.setup ≡ self.now.setup) }
         ensures cache { IfOk result (λ t. t.cache ≡ self.now.cache) }
         ensures affected { IfOk result (λ t. RunsAffected self.now t (edit_place edit.now at i) (ran_of runner.old) (ran_of runner.new)) }
-        ensures setup { setup_of runner.new ≡ setup_of runner.old }
-        ensures rises { ran_of runner.old ≤ ran_of runner.new }
+        ensures goes { GoesOn runner.old runner.new }
     {
         let mut done = copies(alloc, &self.standing[..i])?;
         let theory = &self.standing[i];

@@ -32,5 +32,5 @@ redo-requires g c = record {
 
 pub returns-clause-edited : goal.returns-clause-edited
 returns-clause-edited g c = IfOk-weaker c.redo.result _ _ (λ r added.
-    redone_whole (setup_of c.args.runner.now) (map ended_of c.args.earlier.now) r.theory.last c.args.theory.now.slots (map (λ x. x.value) c.begun.result.slots.items) r.theory.slots (ran_of c.args.runner.now) (ran_of c.redo.new.runner)
+    redone_whole (setup_of c.args.runner.now) (map ended_of c.args.earlier.now) r.theory.last c.args.theory.now.slots (map (λ x. x.value) c.begun.result.slots.items) r.theory.slots _ _
     (ap (map (λ x. x.value)) c.begun.ensures.slots) (rw c.begun.ensures.state at added)) c.redo.ensures.slots

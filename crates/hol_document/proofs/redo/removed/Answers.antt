@@ -1,7 +1,7 @@
 -- The theory goes on after its first slots with what is redone of those behind the one that is taken away.
 use Rattle.std.proofs.Common.{◌+◌, ap, ◌∙◌, map, drop, arith}
 use Rattle.std.proofs.lemmas.Result.{IfOk-weaker}
-use Rattle.hol_document.specs.RunnerView.{setup_of, ran_of}
+use Rattle.hol_document.specs.RunnerView.{setup_of}
 use Rattle.hol_exec.specs.OutcomeValue.{after}
 use Rattle.hol_document.specs.Slots.{ended_of}
 use Rattle.hol_document.proofs.Edited.{remove_edited, slot_there, value_there}
@@ -35,7 +35,7 @@ redo-requires g c =
       stood = (
         map ended_of c.args.earlier.now,
         after c.in_ok-growing.growing.state c.index-slots-at.result.value.row.outcome,
-        rw c.leave_out.ensures.setup here.1,
+        rw c.leave_out.ensures.stays.0 here.1,
         rw c.deref.ensures at c.in_ok-leave_out.ensures.alike,
         each_imports_same (map ended_of c.args.earlier.now) (drop (c.args.at + 1) c.args.theory.now.slots),
       );
@@ -46,5 +46,5 @@ returns-clause-edited g c =
     let parts = c.in_ok-growing.ensures.are (setup_of c.args.runner.now) (map ended_of c.args.earlier.now) c.args.theory.now.last c.requires.stood in
     IfOk-weaker c.redo.result _ _ (λ r added.
     remove_edited (setup_of c.args.runner.now) (map ended_of c.args.earlier.now) c.in_ok-growing.growing.state r.theory.last c.args.at c.args.theory.now.slots r.theory.slots
-    (map (λ x. x.value) c.leave_out.new.growing.slots.items) (ran_of c.args.runner.now) (ran_of c.redo.new.runner)
-    parts.0 (ap (map (λ x. x.value)) c.leave_out.ensures.slots ∙ c.in_ok-growing.ensures.slots) (rw (c.leave_out.ensures.state, c.leave_out.ensures.setup, c.leave_out.ensures.ran) at added)) c.redo.ensures.slots
+    (map (λ x. x.value) c.leave_out.new.growing.slots.items) _ _
+    parts.0 (ap (map (λ x. x.value)) c.leave_out.ensures.slots ∙ c.in_ok-growing.ensures.slots) (rw (c.leave_out.ensures.state, c.leave_out.ensures.stays.0, c.leave_out.ensures.stays.1) at added)) c.redo.ensures.slots

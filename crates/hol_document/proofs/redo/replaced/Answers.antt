@@ -1,7 +1,7 @@
 -- The theory goes on after its first slots with the new one in the place of the old, and with what is redone of the rest.
 use Rattle.std.proofs.Common.{◌++◌, ◌∷◌, [], ap, ◌∙◌, map, drop, ◌+◌, arith}
 use Rattle.std.proofs.lemmas.Result.{IfOk-weaker}
-use Rattle.hol_document.specs.RunnerView.{setup_of, ran_of}
+use Rattle.hol_document.specs.RunnerView.{setup_of}
 use Rattle.hol_exec.specs.OutcomeValue.{after}
 use Rattle.hol_document.specs.Slots.{ended_of}
 use Rattle.hol_document.proofs.Edited.{replace_edited, slot_there, value_there}
@@ -35,7 +35,7 @@ redo-requires g c =
       stood = (
         map ended_of c.args.earlier.now,
         after c.in_ok-growing.growing.state c.index-slots-at.result.value.row.outcome,
-        rw c.in_ok-replace.ensures.setup here.1,
+        rw c.in_ok-replace.ensures.goes.0 here.1,
         rw c.deref.ensures at c.in_ok-replace.ensures.alike,
         each_imports_same (map ended_of c.args.earlier.now) (drop (c.args.at + 1) c.args.theory.now.slots),
       );
@@ -47,5 +47,5 @@ returns-clause-edited g c =
     let put = c.in_ok-replace.ensures.put in
     IfOk-weaker c.redo.result _ _ (λ r added.
     replace_edited (setup_of c.args.runner.now) (map ended_of c.args.earlier.now) c.in_ok-growing.growing.state c.replace.new.growing.state r.theory.last c.args.at c.args.theory.now.slots r.theory.slots
-    (map (λ x. x.value) c.replace.new.growing.slots.items) put.0 c.args.line.now.value.text (ran_of c.args.runner.now) (ran_of c.replace.new.runner) (ran_of c.redo.new.runner) c.requires.fits
-    parts.0 put.2 (put.1 ∙ ap (λ zs. zs ++ put.0 ∷ []) c.in_ok-growing.ensures.slots) (rw c.in_ok-replace.ensures.setup at added)) c.redo.ensures.slots
+    (map (λ x. x.value) c.replace.new.growing.slots.items) put.0 c.args.line.now.value.text _ _ _ c.requires.fits
+    parts.0 put.2 (put.1 ∙ ap (λ zs. zs ++ put.0 ∷ []) c.in_ok-growing.ensures.slots) (rw c.in_ok-replace.ensures.goes.0 at added)) c.redo.ensures.slots

@@ -1,5 +1,5 @@
 use Rattle.std.proofs.Common.{map, refl}
-use Rattle.hol_document.specs.RunnerView.{setup_of, ran_of}
+use Rattle.hol_document.specs.RunnerView.{setup_of}
 use Rattle.hol_document.specs.Slots.{ended_of}
 use Rattle.hol_document.proofs.Settled.{row_keyed, opened_again, few_again}
 use Rattle.hol_document.proofs.Standing.{slot_at}
@@ -18,6 +18,9 @@ go_on-requires g c =
 
 pub returns-clause-few : goal.returns-clause-few
 returns-clause-few g c =
-    let counted = rw c.deref-2.ensures at (c.if-keeps.ensures.no refl (setup_of c.args.runner.now) (map ended_of c.args.earlier.now)) in
-    few_again (λ x. x.value) c.run_again.result (setup_of c.args.runner.now) (map ended_of c.args.earlier.now) c.args.state.now c.args.slot.now.value (ran_of c.args.runner.now) (ran_of c.run_again.new.runner)
-    c.run_again.ensures.slot (rw c.deref-3.ensures at c.run_again.ensures.text) counted c.run_again.ensures.few
+    let counted = rw c.deref-2.ensures at (c.if-keeps.ensures.no refl (setup_of c.args.runner.now) (map ended_of c.args.earlier.now)) in (
+      c.run_again.ensures.few.0,
+      c.run_again.ensures.few.1,
+      few_again (λ x. x.value) c.run_again.result (setup_of c.args.runner.now) (map ended_of c.args.earlier.now) c.args.state.now c.args.slot.now.value _ _
+          c.run_again.ensures.slot (rw c.deref-3.ensures at c.run_again.ensures.text) counted c.run_again.ensures.few.2,
+    )

@@ -1,6 +1,6 @@
 use Rattle.std.specs.List.{insert}
 use Rattle.std.proofs.Common.{◌≡◌, ◌++◌, ◌∷◌, [], ◌+◌, ap, sym, ◌∙◌, subst, map, take, string_bytes, rules}
-use Rattle.hol_document.specs.RunnerView.{setup_of, ran_of}
+use Rattle.hol_document.specs.RunnerView.{setup_of}
 use Rattle.hol_exec.specs.StateValue.{start}
 use Rattle.hol_document.specs.Affected.{AddsTheory}
 use Rattle.hol_document.specs.Alike.{EndAlike}
@@ -31,7 +31,7 @@ invariant_of-result g c =
     let none : c.in_ok-theory.theory.slots ≡ [] = search rules in
     let begins : c.in_ok-theory.theory.last ≡ start = search rules in
     let after = new_after c.self.inside.setup.value (setup_of c.args.runner.now) c.self.inside.standing.items c.in_ok-done.done.items c.push.new.self.items _ c.follow.new.done.items c.in_ok-theory.theory
-    c.args.at (ran_of c.args.runner.now) (ran_of c.follow.new.runner) same c.self.invariant (c.in_ok-done.ensures ∙ ap (take c.args.at) c.deref.ensures.value) none begins c.in_ok-push.ensures.items
+    c.args.at _ _ same c.self.invariant (c.in_ok-done.ensures ∙ ap (take c.args.at) c.deref.ensures.value) none begins c.in_ok-push.ensures.items
     (rest_of c.self.inside.standing.items c.deref-2.result.now c.args.at c.deref-2.ensures.value) c.in_ok-follow.ensures.follow in
     let own : c.in_ok-clone-2.field-0.value ≡ c.self.inside.setup.value = search rules in
     standing_as (setup_of c.args.runner.now) c.in_ok-clone-2.field-0.value c.follow.new.done.items (own ∙ same) after.stand
@@ -42,7 +42,7 @@ returns-clause-theories g c =
     let none : c.in_ok-theory.theory.slots ≡ [] = search rules in
     let begins : c.in_ok-theory.theory.last ≡ start = search rules in
     let after = new_after c.self.inside.setup.value (setup_of c.args.runner.now) c.self.inside.standing.items c.in_ok-done.done.items c.push.new.self.items _ c.follow.new.done.items c.in_ok-theory.theory
-    c.args.at (ran_of c.args.runner.now) (ran_of c.follow.new.runner) same c.self.invariant (c.in_ok-done.ensures ∙ ap (take c.args.at) c.deref.ensures.value) none begins c.in_ok-push.ensures.items
+    c.args.at _ _ same c.self.invariant (c.in_ok-done.ensures ∙ ap (take c.args.at) c.deref.ensures.value) none begins c.in_ok-push.ensures.items
     (rest_of c.self.inside.standing.items c.deref-2.result.now c.args.at c.deref-2.ensures.value) c.in_ok-follow.ensures.follow in
     let own : text_of c.in_ok-theory.theory ≡ record { name = c.args.name.now; commands = [] } = search rules in
     after.texts_are
@@ -56,9 +56,9 @@ returns-clause-affected g c =
     let none : c.in_ok-theory.theory.slots ≡ [] = search rules in
     let begins : c.in_ok-theory.theory.last ≡ start = search rules in
     let after = new_after c.self.inside.setup.value (setup_of c.args.runner.now) c.self.inside.standing.items c.in_ok-done.done.items c.push.new.self.items _ c.follow.new.done.items c.in_ok-theory.theory
-    c.args.at (ran_of c.args.runner.now) (ran_of c.follow.new.runner) same c.self.invariant (c.in_ok-done.ensures ∙ ap (take c.args.at) c.deref.ensures.value) none begins c.in_ok-push.ensures.items
+    c.args.at _ _ same c.self.invariant (c.in_ok-done.ensures ∙ ap (take c.args.at) c.deref.ensures.value) none begins c.in_ok-push.ensures.items
     (rest_of c.self.inside.standing.items c.deref-2.result.now c.args.at c.deref-2.ensures.value) c.in_ok-follow.ensures.follow in
     let own : c.in_ok-clone-2.field-0.value ≡ c.self.inside.setup.value = search rules in
-    runs_as _ _ _ _ (AddsTheory c.args.at) (ran_of c.args.runner.now) (ran_of c.follow.new.runner)
+    runs_as _ _ _ _ (AddsTheory c.args.at) _ _
     (docs_as (map text_of c.self.inside.standing.items) c.self.inside.setup.value (setup_of c.args.runner.now) c.self.inside.cache same ∙ c.self.view_is)
     (docs_as (map text_of c.follow.new.done.items) c.in_ok-clone-2.field-0.value (setup_of c.args.runner.now) c.self.inside.cache (own ∙ same)) (after.runs c.self.inside.cache)

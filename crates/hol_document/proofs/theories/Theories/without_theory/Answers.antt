@@ -1,7 +1,7 @@
 use Rattle.std.specs.List.{remove}
 use Rattle.std.proofs.Common.{◌≡◌, ◌++◌, ◌∷◌, [], ◌+◌, ap, sym, ◌∙◌, subst, map, take, string_bytes, rules}
 use Rattle.hol_exec.specs.StateValue.{start}
-use Rattle.hol_document.specs.RunnerView.{setup_of, ran_of}
+use Rattle.hol_document.specs.RunnerView.{setup_of}
 use Rattle.hol_document.specs.Affected.{DropsTheory}
 use Rattle.hol_document.specs.Alike.{EndAlike}
 use Rattle.hol_document.specs.Documents.{Documents}
@@ -31,13 +31,13 @@ leave_each-requires g c =
     let within = within_of c.self.inside.standing.items c.args.self.now.theories c.args.i (ap (λ (d : Documents). d.theories) c.self.view_is) c.requires.within in
     let here = standing_here c.self.inside.setup.value (setup_of c.args.runner.now) c.self.inside.standing.items c.in_ok-done.done.items c.args.i c.index-theory.result.now same c.self.invariant within c.index-theory.ensures
     (c.in_ok-done.ensures ∙ ap (take c.args.i) c.deref.ensures.value) in
-    (map ended_of c.in_ok-done.done.items, start, c.index-theory.result.now.last, rw (c.follow.ensures.setup, c.slots.ensures) here.0)
+    (map ended_of c.in_ok-done.done.items, start, c.index-theory.result.now.last, rw (c.follow.ensures.goes.0, c.slots.ensures) here.0)
 
 pub invariant_of-result : goal.invariant_of-result
 invariant_of-result g c =
     let same = ap (λ (d : Documents). d.setup) c.self.view_is ∙ c.requires.setup in
     let after = drop_after c.self.inside.setup.value (setup_of c.args.runner.now) c.self.inside.standing.items c.in_ok-done.done.items _ c.follow.new.done.items
-    c.args.i (ran_of c.args.runner.now) (ran_of c.follow.new.runner) same c.self.invariant (c.in_ok-done.ensures ∙ ap (take c.args.i) c.deref.ensures.value)
+    c.args.i _ _ same c.self.invariant (c.in_ok-done.ensures ∙ ap (take c.args.i) c.deref.ensures.value)
     (rest_of c.self.inside.standing.items c.deref-2.result.now (c.args.i + 1) c.deref-2.ensures.value) c.in_ok-follow.ensures.follow in
     let own : c.in_ok-clone-2.field-0.value ≡ c.self.inside.setup.value = search rules in
     standing_as (setup_of c.args.runner.now) c.in_ok-clone-2.field-0.value c.follow.new.done.items (own ∙ same) after.stand
@@ -46,7 +46,7 @@ pub returns-clause-theories : goal.returns-clause-theories
 returns-clause-theories g c =
     let same = ap (λ (d : Documents). d.setup) c.self.view_is ∙ c.requires.setup in
     let after = drop_after c.self.inside.setup.value (setup_of c.args.runner.now) c.self.inside.standing.items c.in_ok-done.done.items _ c.follow.new.done.items
-    c.args.i (ran_of c.args.runner.now) (ran_of c.follow.new.runner) same c.self.invariant (c.in_ok-done.ensures ∙ ap (take c.args.i) c.deref.ensures.value)
+    c.args.i _ _ same c.self.invariant (c.in_ok-done.ensures ∙ ap (take c.args.i) c.deref.ensures.value)
     (rest_of c.self.inside.standing.items c.deref-2.result.now (c.args.i + 1) c.deref-2.ensures.value) c.in_ok-follow.ensures.follow in
     after.texts_are ∙ (sym (removed_map text_of c.self.inside.standing.items c.args.i) ∙ ap (λ (d : Documents). remove d.theories c.args.i) c.self.view_is)
 
@@ -54,9 +54,9 @@ pub returns-clause-affected : goal.returns-clause-affected
 returns-clause-affected g c =
     let same = ap (λ (d : Documents). d.setup) c.self.view_is ∙ c.requires.setup in
     let after = drop_after c.self.inside.setup.value (setup_of c.args.runner.now) c.self.inside.standing.items c.in_ok-done.done.items _ c.follow.new.done.items
-    c.args.i (ran_of c.args.runner.now) (ran_of c.follow.new.runner) same c.self.invariant (c.in_ok-done.ensures ∙ ap (take c.args.i) c.deref.ensures.value)
+    c.args.i _ _ same c.self.invariant (c.in_ok-done.ensures ∙ ap (take c.args.i) c.deref.ensures.value)
     (rest_of c.self.inside.standing.items c.deref-2.result.now (c.args.i + 1) c.deref-2.ensures.value) c.in_ok-follow.ensures.follow in
     let own : c.in_ok-clone-2.field-0.value ≡ c.self.inside.setup.value = search rules in
-    rw c.leave_each.ensures.ran (runs_as _ _ _ _ (DropsTheory c.args.i) (ran_of c.args.runner.now) (ran_of c.follow.new.runner)
+    rw c.leave_each.ensures.1 (runs_as _ _ _ _ (DropsTheory c.args.i) _ _
     (docs_as (map text_of c.self.inside.standing.items) c.self.inside.setup.value (setup_of c.args.runner.now) c.self.inside.cache same ∙ c.self.view_is)
     (docs_as (map text_of c.follow.new.done.items) c.in_ok-clone-2.field-0.value (setup_of c.args.runner.now) c.self.inside.cache (own ∙ same)) (after.runs c.self.inside.cache))
