@@ -314,7 +314,7 @@ def main():
     words.add_argument("--edit", action="append", metavar="WORD", help="only the edits whose file's name has this word (repeatable)")
     words.add_argument("--over", type=pathlib.Path, default=ROOT, metavar="TREE", help="the tree in which `rt ci` has left the libraries; else this one")
     words.add_argument("--jobs", type=int, default=min(os.cpu_count() or 1, 4), metavar="N", help="how many checks go on side by side")
-    words.add_argument("--together", type=int, default=12, metavar="N", help="how many edits are tried in one check")
+    words.add_argument("--together", type=int, default=18, metavar="N", help="how many edits are tried in one check")
     words.add_argument("--unedited", action="store_true", help="take the same files into the copies as they stand: each law must be proved")
     words.add_argument("--verbose", action="store_true", help="print what each check says")
     words = words.parse_args()

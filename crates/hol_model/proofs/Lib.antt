@@ -21,5 +21,6 @@ pub mod Tables
 pub mod Finite
 pub mod Consistency
 pub mod WellTyped
+pub mod ItemsTyped
 pub mod NamesOnce
 pub mod Orders

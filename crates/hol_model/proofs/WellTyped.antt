@@ -1,7 +1,7 @@
 -- What the tests of types and terms let through is well typed in the words of the simple theory of types.
-use Rattle.std.proofs.Common.{◌≡◌, ℕ, zero, suc, inl, inr, List, [], ◌∷◌, refl, ap, sym, ◌∙◌, Bool, true, false, cond, ◌&&◌, ◌==◌, Some, bytes_eq, arith}
+use Rattle.std.proofs.Common.{◌≡◌, ℕ, zero, suc, inl, inr, List, [], ◌∷◌, refl, ap, sym, ◌∙◌, Bool, true, false, cond, ◌&&◌, ◌==◌, Option, Some, None, bytes_eq, arith}
 use Rattle.std.specs.Prelude.{Contains}
-use Rattle.std.specs.Option.{option_map}
+use Rattle.std.specs.Option.{option_map, option_and_then}
 use mathlib.Core.Bool.{true≢false}
 use Rattle.std.specs.List.{list_any}
 use Rattle.std.proofs.lemmas.Bool.{and_parts, or_cases}
@@ -9,22 +9,44 @@ use Rattle.std.proofs.lemmas.Bool.Decides.{nat_tests}
 use Rattle.std.proofs.lemmas.Slice.Eq.{bytes_eq-Decides}
 use Rattle.hol_types.specs.Tree.{TypeTree, TypeList, TyVar, TyApp, no_types, more_types, types_count}
 use Rattle.hol_types.specs.Fun.{fun_type}
+use Rattle.hol_terms.specs.Named.{applied_type}
 use Rattle.hol_terms.specs.Nameless.{Nameless, free, bound, fixed, app, lam, base_of, nameless_type}
+use Rattle.hol_terms.proofs.Typing.{applied_is}
 use Rattle.hol_subst.proofs.Typing.{mapped_part}
 use Rattle.hol_formulas.specs.Constants.{is_constructor, is_constant_at, is_instance, is_instance_of, generic_in, prelude_types, prelude_constants, prelude_generic}
-use Rattle.hol_formulas.specs.Equation.{bool_type}
 use Rattle.hol_formulas.proofs.Instance.{subst_of_instance}
-use Rattle.hol_kernel.specs.Item.{Item, declared_type, declared_constant, defined_constant, defined_type, declared_axiom}
+use Rattle.hol_kernel.specs.Item.{Item}
 use Rattle.hol_kernel.specs.Items.{Items, in_order, Holds}
 use Rattle.hol_kernel.specs.Signature.{has_arity, has_constant, makes_type, makes_constant, item_types, item_constants}
 use Rattle.hol_kernel.specs.Typing.{is_type, are_types, is_base, is_known, HasType}
-use Rattle.hol_kernel.specs.Legal.{IsSound, IsLegalSet}
-use Rattle.hol_kernel.proofs.SortedSets.{any_some}
-use Rattle.hol_kernel.proofs.Weaken.{held}
-use Rattle.hol_kernel.proofs.Held.{sound_held}
-use Rattle.hol_kernel.proofs.Stands.{app_parts, some_is}
-use Rattle.hol_kernel.proofs.Variables.{known_typed}
-use Rattle.hol_model.specs.WellTyped.{IsConstructor, Stands, AllStand, IsConstant, IsOfType, IsItemTyped}
+use Rattle.hol_kernel.proofs.Members.{Among, itself}
+use Rattle.hol_kernel.proofs.Ordered.{in_sorting}
+use Rattle.hol_kernel.proofs.ItemOrder.{total, only}
+use Rattle.hol_kernel.proofs.SortedSets.{any_some, some_any}
+use Rattle.hol_model.specs.WellTyped.{IsConstructor, Stands, AllStand, IsConstant, IsOfType}
+
+-- ---- what hol_kernel proves too, by way of more: here these stand on little, so that tests/weaker.py takes few files along with an edit of typing
+
+held : (items : Items) (x : Item) → Among x (in_order items) → Holds items x
+held items x h = sym (in_sorting total only items x) ∙ some_any _ (in_order items) x h (itself total only x)
+
+some_is : (s t : TypeTree) → Some s ≡ Some t → s ≡ t
+some_is s t e = cc
+
+known_typed : (items : Items) (t : Nameless) (a : TypeTree) → HasType items t a → (is_known items t ≡ true) × (nameless_type [] t ≡ Some a)
+known_typed items t a h = by (is_known items t) refl h
+  where
+    by : (b : Bool) → is_known items t ≡ b → cond b (nameless_type [] t) None ≡ Some a → (is_known items t ≡ true) × (nameless_type [] t ≡ Some a)
+    by true e g = (e, g)
+    by false e g = absurd (cc)
+
+app_parts : (env : List TypeTree) (f x : Nameless) (s : TypeTree) → nameless_type env (app f x) ≡ Some s → (t : TypeTree) × (nameless_type env f ≡ Some (fun_type t s)) × (nameless_type env x ≡ Some t)
+app_parts env f x s e = by (nameless_type env f) (nameless_type env x) refl refl e
+  where
+    by : (o p : Option TypeTree) → nameless_type env f ≡ o → nameless_type env x ≡ p → option_and_then (λ a. option_and_then (λ b. applied_type a b) p) o ≡ Some s → (t : TypeTree) × (nameless_type env f ≡ Some (fun_type t s)) × (nameless_type env x ≡ Some t)
+    by None p q r g = absurd (cc)
+    by (Some a) None q r g = absurd (cc)
+    by (Some a) (Some b) q r g = (b, q ∙ ap Some (applied_is a b s g), r)
 
 -- ---- lists
 
@@ -135,13 +157,3 @@ module _ (items : Items) where
 
   pub typed_is : (t : Nameless) (a : TypeTree) → HasType items t a → IsOfType items [] t a
   typed_is t a h = let p = known_typed items t a h in of_type [] t a p.0 p.1
-
-  item_typed : (x : Item) → IsSound items x → IsItemTyped items x
-  item_typed (declared_type c n) sound = tt
-  item_typed (declared_constant c a) sound = stands items a sound
-  item_typed (defined_constant c r) sound = (sound.0, typed_is r sound.0 sound.1.typed)
-  item_typed (defined_type c abs rep p) sound = (sound.1.0, typed_is p (fun_type sound.1.0 bool_type) sound.1.1.typed)
-  item_typed (declared_axiom n p) sound = typed_is p bool_type sound
-
-pub legal_typed : (items : Items) → IsLegalSet items → (x : Item) → Holds items x → IsItemTyped items x
-legal_typed items legal x h = item_typed items x (sound_held items legal x h)
