@@ -254,9 +254,14 @@ class File:
         if len(texts) <= protocol.COMMANDS:
             return
         first = self.commands[self._slots.index(protocol.COMMANDS)]
-        self._blemishes.append(Blemish(
-            first.start, first.end, "a theory has at most %d commands: from here on nothing is checked; split the file"
-            % protocol.COMMANDS, True))
+        if first.package is not None:
+            own = [slot for slot, command in zip(self._slots, self.commands) if command.package is first.package and slot is not None]
+            left = sum(slot < protocol.COMMANDS for slot in own)
+            told = "this %s takes %d commands, and %d are left of a theory's %d: from here on nothing is checked; split the file" % (
+                first.package.word, len(own), left, protocol.COMMANDS)
+        else:
+            told = "a theory has at most %d commands: from here on nothing is checked; split the file" % protocol.COMMANDS
+        self._blemishes.append(Blemish(first.start, first.end, told, True))
 
     def _check_name(self) -> None:
         if self._is_named:

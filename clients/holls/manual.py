@@ -131,6 +131,8 @@ PACKAGES = _entries(r"""
 define_type NAME = CONSTRUCTOR type .. | .. | Declares a type with constructors, and makes its theorems of induction, recursion, cases and equality.
 define NAME `clauses` | Defines functions by clauses with patterns, and makes the theorem NAME of them; `by_measure` says what gets smaller at each call.
 inductive NAME `rules` | Defines the least relation that has the rules, and makes NAME_RULES, NAME_INDUCT, NAME_STRONG_INDUCT and NAME_CASES.
+record NAME = CONSTRUCTOR field:type .. | Declares a type of one constructor, with functions that read and replace its fields, and their laws.
+specification NAME constant .. TH | Of a theorem that something exists makes constants that are so, and the theorem NAME that they are.
 theorems NAME = [th; ..] | Names a list of theorems, which then stands in any list.
 sorry | Ends the open proof: what it was to prove is an axiom from here on, with a warning.
 """)

@@ -33,7 +33,7 @@ _FINDS = "the editors' action Find a proof, or `holls prove`, looks for the step
 
 ELSEWHERE = {
     "ASM_MESON_TAC": _FINDS, "MESON_TAC": _FINDS, "METIS_TAC": _FINDS, "ITAUT_TAC": _FINDS, "TAUT_TAC": _FINDS, "ARITH_TAC": _FINDS,
-    "REAL_ARITH_TAC": "", "ABS_TAC": "", "INDUCT_TAC": "", "ASM_ARITH_TAC": _FINDS, "CHEAT_TAC": "give the proof up by oops;;, or state it by new_axiom",
+    "REAL_ARITH_TAC": "", "ABS_TAC": "", "INDUCT_TAC": "INDUCT_ON `x`, first in a command, is by the theorem of the type of x", "ASM_ARITH_TAC": _FINDS, "CHEAT_TAC": "the command sorry;; ends the proof, with a warning",
     "SIMP_TAC": "REWRITE_TAC rewrites, without conditions", "ASM_SIMP_TAC": "ASM_REWRITE_TAC rewrites, without conditions",
     "COND_CASES_TAC": "DISJ_CASES_TAC (SPEC `b` EXCLUDED_MIDDLE) and COND_CLAUSES make the two cases", "BOOL_CASES_TAC": "DISJ_CASES_TAC takes a theorem p \\/ q",
     "ASM_CASES_TAC": "DISJ_CASES_TAC takes a theorem p \\/ q", "GEN_REWRITE_TAC": "ONCE_REWRITE_TAC and SUBST1_TAC rewrite one place",

@@ -175,6 +175,37 @@ class Relations(unittest.TestCase):
                 self.assertTrue(found[0][0].startswith(where), found)
 
 
+class Records(unittest.TestCase):
+    def test_fields_are_read_and_replaced(self):
+        found = statements("record point = Point x:num tag:A;;")
+        self.assertEqual(found["point_FIELDS"], "(!(x:num) (tag:A). point_x (Point x tag) = x) /\\ (!(x:num) (tag:B). point_tag (Point x tag) = tag)")
+        self.assertIn("set_point_x new (Point x tag) = Point new tag", found["point_SETS"])
+        for name in ("point_ETA", "point_UPDATES", "point_EXT", "point_INDUCTION"):
+            self.assertIn(name, found)
+
+    def test_what_is_wrong_is_told_at_its_word(self):
+        for text, where, words in (
+                ("record t = C num;;", "num", "a field is written"), ("record t = C x:num x:num;;", "C", "stands twice"),
+                ("record t = C x:num | D;;", "D", "one constructor"), ("record t = C;;", "C", "from 1 to"),
+                ("specification A c EQ_REFL;;", "EQ_REFL", "says that 0 exist"), ("specification A c NOTHING;;", "NOTHING", "no theorem"),
+                ("new_axiom SOME_ONE `?n. n = 1`;;\nspecification A SUC SOME_ONE;;", "SUC", "stands already"), ("specification A c;;", "", "of the form")):
+            with self.subTest(text):
+                found = told(text)
+                self.assertEqual(len(found), 1, found)
+                self.assertIn(words, found[0][1])
+                self.assertTrue(found[0][0].startswith(where), found)
+
+    def test_a_specification_says_of_constants_what_exists(self):
+        found = statements("new_axiom SOME_LESS `?m n:num. m < n`;;\nspecification BOTH low high SOME_LESS;;")
+        self.assertEqual(found["BOTH"], "lt low high")
+
+    def test_a_package_that_a_theory_has_no_room_for_is_told(self):
+        file = read("".join("new_axiom A%d `T`;;\n" % number for number in range(990)) + "define_type t = C | D;;\nnew_axiom B `T`;;\n")
+        found = [one.text for one in findings(file) if "split the file" in one.text]
+        self.assertEqual(len(found), 1)
+        self.assertRegex(found[0], "this define_type takes [0-9]+ commands, and 9 are left of a theory's 1000")
+
+
 class Steps(unittest.TestCase):
     def sent(self, text):
         """What is sent of a file's last command."""
@@ -324,6 +355,7 @@ class OverTheProgram(unittest.TestCase):
                "define FIB `FIB 0 = 0 /\\ FIB 1 = 1 /\\ FIB (n + 2) = FIB n + FIB (n + 1)`;;\n" \
                "define MAJ `(MAJ T T c <=> T) /\\ (MAJ T b T <=> T) /\\ (MAJ a T T <=> T) /\\ (MAJ a b c <=> F)`;;\n" \
                "inductive STAR `(!x. STAR R x x) /\\ (!x y z. R x y /\\ STAR R y z ==> STAR R x z)`;;\n" \
+               "record point = Point across:num tag:A;;\n" \
                "inductive EV `EV 0 /\\ (!n. OD n ==> EV (SUC n)) /\\ (!n. EV n ==> OD (SUC n))`;;\n" \
                "define BAD by_measure `\\n. n` `BAD n = BAD (n + 1)`;;\ng COLOURS `!x. x = Red \\/ x = Green \\/ x = Blue`;;\ne ACCEPT_TAC colour_CASES;;\nqed;;\n" \
                "g HARD `!x:num. x = x`;;\nsorry;;\ng LATER `!x:num. x = x`;;\ne ACCEPT_TAC HARD;;\nqed;;\n"
@@ -335,7 +367,7 @@ class OverTheProgram(unittest.TestCase):
         self.assertEqual(errors[1], "error: HARD isn't proved: it is an axiom by this sorry")
         rests = {line.split(": ", 1)[1].split(" ")[0]: line for line in said.split("\n") if " rests on " in line}
         self.assertIn("axiom:HARD", rests["LATER"].split("rests on")[1])
-        for name in ("COLOURS", "exp_RECURSION", "exp_INJECTIVE", "tree_DISTINCT", "VAL", "GCD", "FIB", "MAJ", "STAR_CASES", "EV_STRONG_INDUCT"):
+        for name in ("COLOURS", "exp_RECURSION", "exp_INJECTIVE", "tree_DISTINCT", "VAL", "GCD", "FIB", "MAJ", "STAR_CASES", "EV_STRONG_INDUCT", "point_EXT"):
             self.assertNotIn("axiom", rests[name])
 
     def test_random_declarations_are_accepted(self):

@@ -55,7 +55,7 @@ def symbols(file: File) -> List[Dict[str, Any]]:
 def _package(file: File, command: Command) -> Dict[str, Any]:
     """A package, which is one thing whatever it stands for."""
     return {
-        "name": command.name or command.word, "kind": KINDS[TYPE] if command.word == "define_type" else FUNCTION,
+        "name": command.name or command.word, "kind": KINDS[TYPE] if command.word in ("define_type", "record") else FUNCTION,
         "detail": " ".join(command.text.split())[:DETAIL], "range": span(file, command.start, command.end),
         "selectionRange": span(file, *names.place_of_name(command, command.name))}
 

@@ -5,7 +5,7 @@ from __future__ import annotations
 from dataclasses import dataclass
 from typing import Any, Callable, Dict, List, Mapping, Optional, Tuple
 
-from holls.packages import datatypes, functions, listed, relations
+from holls.packages import datatypes, functions, listed, records, relations, specification
 from holls.packages.output import HIDDEN, PUBLIC, Output, Plain
 from holls.packages.parsing import Place
 from holls.packages.scope import THEORY, Asking, Standing, agrees
@@ -45,9 +45,12 @@ def _define_type(text: str, place: Place, out: Output) -> None:
     out.asking.own.data[data.name] = data
 
 
-PACKAGES: Dict[str, Callable[[str, Place, Output], None]] = {"define_type": _define_type, "define": functions.expand, "inductive": relations.expand}
+PACKAGES: Dict[str, Callable[[str, Place, Output], None]] = {
+    "define_type": _define_type, "define": functions.expand, "inductive": relations.expand,
+    "specification": specification.expand, "record": records.expand}
 """The packages by their words, each with what expands it."""
-WORDS: Dict[str, str] = {"define_type": datatypes.FORM, "define": functions.FORM, "inductive": relations.FORM, "sorry": "sorry", "theorems": listed.FORM}
+WORDS: Dict[str, str] = {"define_type": datatypes.FORM, "define": functions.FORM, "inductive": relations.FORM,
+                         "specification": specification.FORM, "record": records.FORM, "sorry": "sorry", "theorems": listed.FORM}
 """The words that begin a package, and how each is written."""
 
 

@@ -69,14 +69,18 @@ class Definition:
 
 def expand(text: str, place: Place, out: Output) -> None:
     """Makes the commands of a `define`. Raises `Misread`."""
-    found = words(text)
-    name, measure, quotation = _parts(text, found)
+    name, measure, quotation = _parts(text, words(text))
     reader = ClauseReader(place.term(quotation), out.asking)
-    functions, clauses = reader.read()
-    if name.text not in {one.name for one in functions}:
+    if name.text not in reader.arities:
         raise Misread(name.start, name.end, "no clause defines `%s`" % name.text)
+    define(name.text, reader, out, measure, place)
+
+
+def define(name: str, reader: ClauseReader, out: Output, measure: Optional[Measure], place: Place) -> None:
+    """Makes the commands of functions by clauses, with the theorem of the clauses under a name. Raises `Misread`."""
+    functions, clauses = reader.read()
     trees = {one.name: Decisions(one, out.asking, frozenset(reader.arities)) for one in functions}
-    definition = Definition(name.text, functions, clauses, trees, out.asking, out)
+    definition = Definition(name, functions, clauses, trees, out.asking, out)
     _check(definition)
     called = any(calls(one.right, definition.arities) for one in clauses)
     if not called:

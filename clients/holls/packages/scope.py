@@ -365,11 +365,12 @@ class Asking:
 
     def data_of(self, name: str) -> Optional[Data]:
         """An inductive type."""
-        return self._asked("data_of", name, self.standing.data_of(name))
+        return self.own.data.get(name) or self._asked("data_of", name, self.standing.data_of(name))
 
     def constructor(self, name: str) -> Optional[Tuple[Data, Constructor]]:
         """A constructor of an inductive type."""
-        return self._asked("constructor", name, self.standing.constructor(name))
+        own = next(((one, one.constructor(name)) for one in self.own.data.values() if one.constructor(name)), None)
+        return own or self._asked("constructor", name, self.standing.constructor(name))
 
     def relation(self, name: str) -> Optional[Relation]:
         """An inductive relation."""
