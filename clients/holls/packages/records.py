@@ -14,7 +14,7 @@ from holls.packages.layout import Layout
 from holls.packages.output import PUBLIC, Output
 from holls.packages.parsing import Place, Word
 from holls.packages.scope import Data
-from holls.packages.terms import fresh, tyshow
+from holls.packages.terms import tyshow
 from holls.packages.type_commands import TypeCommands
 from holls.surface.errors import Misread
 from holls.surface.table import EMPTY
@@ -60,7 +60,7 @@ class _Record:
         self.readers = ["%s_%s" % (data.name, one) for one in fields]
         self.setters = ["set_%s_%s" % (data.name, one) for one in fields]
         taken = {one.name for one in self.arguments} | set(self.readers) | set(self.setters)
-        self.new = out.asking.fresh(fresh("new", taken), taken)
+        self.new = out.asking.fresh("new", taken)
         self.element = out.asking.fresh("r", taken)
         self.other = out.asking.fresh("s", taken)
 
