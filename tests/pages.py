@@ -402,7 +402,7 @@ def broken_links(page, text):
 
 def missing_paths(page, text):
     """Paths from the top of the repository, or from crates/ to a crate's files; NAME and * stand for any name. What is built has `out` in its path."""
-    paths = re.findall(r"(?<![\w/.-])((?:crates|docs|tests|bench|examples|clients)/[\w./*+-]*)", text)
+    paths = re.findall(r"(?<![\w/.-])((?:crates|docs|tests|bench|examples|clients|release)/[\w./*+-]*)", text)
     paths += [f"crates/{path}" for path in re.findall(r"(?<![\w/.-])(hol_\w+/(?:src|specs|proofs)/[\w./*]*)", text)]
     for path in paths:
         path = path.rstrip(".-")
@@ -496,7 +496,7 @@ def kit_faults():
 
 
 def page_checks():
-    pages = sorted(p for folder in (".", "docs", "bench", "examples", "tests", "clients") for p in (ROOT / folder).glob("*.md"))
+    pages = sorted(p for folder in (".", "docs", "bench", "examples", "release", "tests", "theories") for p in (ROOT / folder).glob("*.md"))
     for page in pages:
         text = page.read_text(encoding="utf-8")
         for name, faults in (("lines", long_lines), ("links", broken_links), ("paths", missing_paths), ("quotes", stale_quotes)):
