@@ -1,4 +1,4 @@
-//! Copies of matches, of expressions, of arguments and of pairs of types.
+//! Copies of matches, of expressions, of arguments and of pairs of types; and an argument of theorems.
 ghost use Rattle.std.specs.Prelude.{[], IfOk, IsTrue};
 ghost use Rattle.hol_terms.specs.Nameless.{nameless};
 ghost use Rattle.hol_match.specs.Patterns.{is_apart};
@@ -7,7 +7,7 @@ use hol_combine::{Expr, ExprNode};
 use hol_formulas::{bool_type, occurrence, variable};
 use hol_goal::TacArgs;
 use hol_match::term_match;
-use hol_notation_tactics::{ThmExpr, ThmExprNode, read_theorem};
+use hol_notation_tactics::{TacArg, TacArgNode, ThmExpr, ThmExprNode, read_theorem};
 use hol_notation_tokens::scan;
 use hol_terms::Term;
 use std::alloc::{AllocError, Global};
@@ -83,8 +83,19 @@ fn is_pair_copied(alloc: Global) -> Result<bool, Fail> {
     is_of_copied_pair(&theorem)
 }
 
+// Whether an argument is what it is made of: theorems, of which there are none.
+fn is_argument_made(alloc: Global) -> bool {
+    let argument = TacArg::new(TacArgNode::Theorems(Vec::new(alloc)));
+    matches!(argument.node(), TacArgNode::Theorems(theorems) if theorems.is_empty())
+}
+
 fn are_copied(alloc: Global) -> Result<bool, Fail> {
-    Ok(is_letter_copied(alloc)? && is_expression_copied(alloc)? && is_pair_copied(alloc)?)
+    Ok(
+        is_argument_made(alloc)
+            && is_letter_copied(alloc)?
+            && is_expression_copied(alloc)?
+            && is_pair_copied(alloc)?,
+    )
 }
 
 #[test]

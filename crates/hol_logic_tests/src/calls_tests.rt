@@ -2,7 +2,7 @@
 ghost use Rattle.std.specs.Prelude.{◌≡◌};
 
 use crate::written::Written;
-use hol_formulas::{mk_disj, mk_truth};
+use hol_formulas::{bool_type, is_eq, is_exists, mk_disj, mk_truth};
 use hol_kernel::{Basis, KernelError, Thm, TypeDefinition};
 use hol_notation_tokens::lex;
 use hol_print::{ShownBefore, show_goal};
@@ -77,11 +77,33 @@ fn is_clash_copied(alloc: Global) -> Result<bool, AllocError> {
     Ok(matches!(&copy, KernelError::Clash(name) if name.as_str() == "c"))
 }
 
+// Whether an equation and an existential quantification are told apart.
+fn are_told_apart(written: &Written) -> Result<bool, Fail> {
+    let equation = written.term("p:bool = q")?;
+    let existential = written.term("?p:bool. p")?;
+    let eqs = is_eq(&equation) && !is_eq(&existential);
+    Ok(eqs && is_exists(&existential) && !is_exists(&equation))
+}
+
+// The basis of a type and of a constant of type `bool`, of these names: each is declared on no items, and they are joined.
+fn joined(alloc: Global, ty: &str, constant: &str) -> Result<Basis, KernelError> {
+    let empty = Basis::empty(alloc)?;
+    let of_type = empty.declare_type(alloc, &Name::new(alloc, ty)?, 0)?;
+    let of_constant = empty.declare_const(alloc, &Name::new(alloc, constant)?, &bool_type(alloc)?)?;
+    Basis::join(alloc, &of_type, &of_constant)
+}
+
+fn are_joined(alloc: Global) -> Result<bool, KernelError> {
+    let both = joined(alloc, "t", "c")?;
+    Ok(both.items().len() == 2)
+}
+
 fn are_answered(written: &Written) -> Result<bool, Fail> {
+    let are_joined = are_told_apart(written)? && are_joined(written.alloc)?;
     let count = lex(written.alloc, " g N `x /\\ y'`;")?.len();
     let is_clash_copied = is_clash_copied(written.alloc)?;
     let is_written = is_written(written, "T \\/ T")?;
-    Ok(count == 8 && is_clash_copied && is_written && is_type_defined(written)?)
+    Ok(count == 8 && are_joined && is_clash_copied && is_written && is_type_defined(written)?)
 }
 
 #[test]
