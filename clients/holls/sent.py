@@ -6,8 +6,9 @@ import re
 from dataclasses import dataclass
 from typing import Dict, List, Mapping, NamedTuple, Optional, Sequence, Tuple
 
-from holls.packages import expansion, listed, replacing
-from holls.packages.parts import Course, parts
+from holls.notation import OUTSIDE
+from holls.packages import expansion, forward, listed, replacing
+from holls.packages.parts import Course, in_front, parts
 from holls.packages.scope import Asking, Standing
 from holls.surface import declarations
 from holls.surface.declarations import NOTHING, Declaration, Scope
@@ -113,7 +114,10 @@ class Notation:
         self.names = Names(Vocabulary(constructors, constants), {}, {})
         self._scope = NOTHING
         self._standing = NamesAt(self.names, 0)
-        for command in written:
+        self._placed: Dict[int, replacing.Placed] = {}
+        for at, command in enumerate(written):
+            if command.word == "g":
+                self._put_in_front(command, written, at + 1)
             self._add(len(self.commands), command, imported)
         self.exported = self._scope.exported
         self.vocabulary = Vocabulary({**constructors, **{name: number for name, (_, number) in self.names.constructors.items()}},
@@ -151,7 +155,7 @@ class Notation:
         else:
             self._standing.number = number
             found = translated(command.text, self._scope.table, self._standing)
-            placed = replacing.translated(found, word, self.lists, lambda: self._course.behind(self.commands))
+            placed = replacing.translated(found, word, self.lists, lambda: self._course.behind(self.commands), self._placed.get(command.start))
             self.has_packages = self.has_packages or placed is not found
             found = placed
             if found.is_changed:
@@ -160,6 +164,25 @@ class Notation:
                 self._take_names(number, made)
         self.commands.append(made)
         self.tables.append(self._scope.table)
+
+    def _put_in_front(self, goal: Command, written: Sequence[Command], at: int) -> None:
+        """Puts the hidden theorems in front of a proof that rules in its steps stand for."""
+        steps: List[Tuple[Command, Translation]] = []
+        for number in range(at, len(written)):
+            command = written[number]
+            if command.word in OUTSIDE or command.word in expansion.WORDS or command.word in ("qed", "oops"):
+                break
+            if command.word == "e" and forward.has_rules(command.text):
+                self._standing.number = len(self.commands)
+                found = translated(command.text, self._scope.table, self._standing)
+                steps += [(command, found)] if found.error is None else []
+        if not steps:
+            return
+        self.has_packages = True
+        made = in_front(goal, steps, self._course.behind(self.commands))
+        self._placed.update(made.placed)
+        self.commands += made.parts
+        self.tables += [self._scope.table] * len(made.parts)
 
     def _expand(self, command: Command) -> None:
         """Takes the commands that a package stands for."""

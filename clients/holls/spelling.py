@@ -99,6 +99,9 @@ def _is_otherwise(command: Command) -> bool:
 def _expanded(file: File, number: int) -> Iterator[Change]:
     """The commands of a package, as an ordinary file has them, behind the package as a comment."""
     command = file.commands[number]
+    if command.package.word == "e":  # It stands in front of a proof, for a rule in one of its steps.
+        yield Change(command.start, command.start, command.text + ";;\n")
+        return
     if not command.is_first:
         return
     whole = [one.text for one in file.commands[number:] if one.package is command.package]

@@ -246,6 +246,41 @@ class Steps(unittest.TestCase):
                 self.assertIn(words, found[0][1])
 
 
+class Rules(unittest.TestCase):
+    def test_a_rule_is_a_hidden_theorem_in_front_of_the_proof(self):
+        file = read("new_definition TWICE_DEF `TWICE f (x:A) = f (f x)`;;\ng A `T`;;\ne REWRITE_TAC [GSYM TWICE_DEF; CONJ (SPEC `0` LE_REFL) TRUTH];;")
+        self.assertEqual([one.text for one in file.commands[2:]], [
+            "g pk_A_1 `!(f:A->A) (x:A). f (f x) = TWICE f x`",
+            "e X_GEN_TAC `f:A->A` THEN X_GEN_TAC `x:A` THEN ACCEPT_TAC (SYM (SPEC `x:A` (SPEC `f:A->A` TWICE_DEF)))", "qed",
+            "g pk_A_2 `le _0 _0 /\\ T`", "e CONJ_TAC THENL [ACCEPT_TAC (SPEC `_0` LE_REFL); ACCEPT_TAC TRUTH]", "qed",
+            "g A `T`", "e REWRITE_TAC [pk_A_1; pk_A_2]"])
+        self.assertEqual([one["name"] for one in features.symbols(file)], ["TWICE_DEF", "A"])
+        self.assertEqual([one.name for one in names.written(file)], ["TWICE_DEF", "TWICE", "A"])
+        self.assertEqual(made("g A `T`;;\ne REWRITE_TAC [GSYM ADD_SYM];;"), ["A"])
+
+    def test_a_match_gives_terms_and_types(self):
+        file = read("new_axiom FIRST_OF `!x y:A. P x y ==> !z:B. Q x z`;;\nnew_axiom GIVEN `P 0 T`;;\ng A `T`;;\ne MP_TAC (MATCH_MP EQ_SYM (SPEC `0` ADD_0));;")
+        self.assertTrue(any(one.text.startswith("g pk_A_1 `_0 = ") for one in file.commands), [one.text for one in file.commands])
+
+    def test_the_plain_file_has_the_theorems_before_the_proof(self):
+        file = read("g A `T`;;\ne REWRITE_TAC [GSYM ADD_SYM];;\nqed;;\n")
+        again = File("own.hol")
+        again.take(spelling.expanded(file)[0])
+        share_notation([*library(), again])
+        self.assertEqual([one.text for one in again.commands], [one.text for one in file.commands])
+
+    def test_what_is_wrong_is_told_at_its_word(self):
+        for step, where, words in (
+                ("GSYM NOTHING", "NOTHING", "no theorem"), ("GSYM LT_REFL", "GSYM LT_REFL", "GSYM wants equations"),
+                ("GSYM (ASSUME `T`)", "ASSUME", "isn't taken inside of a rule"), ("MATCH_MP ADD_SYM TRUTH", "MATCH_MP ADD_SYM TRUTH", "wants a theorem"),
+                ("MATCH_MP EQ_SYM LE_0", "MATCH_MP EQ_SYM LE_0", "no instance"), ("GSYM", "]", "no theorem"), ("CONJ TRUTH", "]", "no theorem")):
+            with self.subTest(step):
+                found = [one for one in told("g A `T`;;\ne REWRITE_TAC [%s];;" % step) if "isn't ended" not in one[1]]
+                self.assertEqual(len(found), 1, found)
+                self.assertEqual(found[0][0].strip(), where)
+                self.assertIn(words, found[0][1])
+
+
 class Lists(unittest.TestCase):
     def test_a_list_stands_in_lists_and_in_files_that_import_it(self):
         first, second = File("first.hol"), File("second.hol")
@@ -357,6 +392,7 @@ class OverTheProgram(unittest.TestCase):
                "inductive STAR `(!x. STAR R x x) /\\ (!x y z. R x y /\\ STAR R y z ==> STAR R x z)`;;\n" \
                "record point = Point across:num tag:A;;\n" \
                "inductive EV `EV 0 /\\ (!n. OD n ==> EV (SUC n)) /\\ (!n. EV n ==> OD (SUC n))`;;\n" \
+               "g TURNED `!m n. n + m = m + n`;;\ne ACCEPT_TAC (GSYM ADD_SYM);;\nqed;;\n" \
                "define BAD by_measure `\\n. n` `BAD n = BAD (n + 1)`;;\ng COLOURS `!x. x = Red \\/ x = Green \\/ x = Blue`;;\ne ACCEPT_TAC colour_CASES;;\nqed;;\n" \
                "g HARD `!x:num. x = x`;;\nsorry;;\ng LATER `!x:num. x = x`;;\ne ACCEPT_TAC HARD;;\nqed;;\n"
         status, said = checked(text, "--axioms", "--alone")
@@ -367,7 +403,7 @@ class OverTheProgram(unittest.TestCase):
         self.assertEqual(errors[1], "error: HARD isn't proved: it is an axiom by this sorry")
         rests = {line.split(": ", 1)[1].split(" ")[0]: line for line in said.split("\n") if " rests on " in line}
         self.assertIn("axiom:HARD", rests["LATER"].split("rests on")[1])
-        for name in ("COLOURS", "exp_RECURSION", "exp_INJECTIVE", "tree_DISTINCT", "VAL", "GCD", "FIB", "MAJ", "STAR_CASES", "EV_STRONG_INDUCT", "point_EXT"):
+        for name in ("COLOURS", "exp_RECURSION", "exp_INJECTIVE", "tree_DISTINCT", "VAL", "GCD", "FIB", "MAJ", "STAR_CASES", "EV_STRONG_INDUCT", "point_EXT", "TURNED"):
             self.assertNotIn("axiom", rests[name])
 
     def test_random_declarations_are_accepted(self):

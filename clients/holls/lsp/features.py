@@ -42,7 +42,7 @@ def symbols(file: File) -> List[Dict[str, Any]]:
     for first, last in names.blocks(file):
         command = file.commands[first]
         if command.package is not None:
-            made += [_package(file, command.package)] if command.is_first else []
+            made += [_package(file, command.package)] if command.is_first and command.package.word != "e" else []
             continue
         made.append({
             "name": command.name or command.word, "kind": kinds.get(command.word, FUNCTION),

@@ -3,12 +3,15 @@
 from __future__ import annotations
 
 from dataclasses import dataclass
-from typing import Callable, Iterable, List, Optional, Sequence, Tuple
+from typing import Callable, Dict, Iterable, List, Optional, Sequence, Tuple, Union
 
+from holls.packages import forward
 from holls.packages.expansion import Expansion
 from holls.packages.output import PUBLIC, Plain
-from holls.packages.scope import Standing
+from holls.packages.scope import Asking, Standing
+from holls.packages.steps import Change
 from holls.surface.errors import Misread
+from holls.surface.translation import Translation
 from holls.text import Command
 
 
@@ -63,6 +66,33 @@ def parts(command: Command, expansion: Expansion) -> List[Command]:
     if expansion.error is not None:
         return [Part("", command.start, command.end, command.marks, command, Plain("", PUBLIC, None), True, expansion.error)]
     return [Part(one.text, command.start, command.end, command.marks, command, one, not number) for number, one in enumerate(expansion.plain)]
+
+
+@dataclass
+class InFront:
+    """The hidden theorems in front of a proof, and what its steps have in place of rules: by each step's place in the file, its text and what stands there."""
+
+    parts: List[Command]
+    placed: Dict[int, Tuple[str, Union[List[Change], Misread]]]
+
+
+def in_front(goal: Command, steps: Sequence[Tuple[Command, Translation]], standing: Standing) -> InFront:
+    """The hidden theorems of a proof's steps. Where a rule can't be carried out its step has the error."""
+    lemmas = forward.Lemmas(goal.name, Asking(standing))
+    found = InFront([], {})
+    for command, translation in steps:
+        done = len(lemmas.plain)
+        try:
+            found.placed[command.start] = translation.text, forward.changes(translation.text, lemmas)
+        except Misread as error:
+            found.placed[command.start] = translation.text, error
+            del lemmas.plain[done:]
+        except RecursionError:
+            found.placed[command.start] = translation.text, Misread(0, 1, "this is nested too deeply for a package")
+            del lemmas.plain[done:]
+        for one in lemmas.plain[done:]:
+            found.parts.append(Part(one.text, goal.start, goal.end, goal.marks, command, one, not found.parts))
+    return found
 
 
 class Course:

@@ -3,7 +3,7 @@
 from __future__ import annotations
 
 import re
-from typing import AbstractSet, Callable, List, Sequence
+from typing import AbstractSet, Callable, List, Optional, Sequence, Tuple, Union
 
 from holls.packages import listed, steps
 from holls.packages.scope import Asking, Standing
@@ -13,22 +13,28 @@ from holls.surface.plain import Segment
 from holls.surface.translation import Translation
 
 _NAMES = re.compile(r"[A-Za-z_][A-Za-z0-9_']*")
+Placed = Tuple[str, Union[List[Change], Misread]]
+"""A step's text, and what stands in place of its rules, or what is wrong with one."""
 _USING = ("e", "deftac", "theorems")
 """The commands in which lists of theorems stand."""
 
 
-def translated(found: Translation, word: str, lists: AbstractSet[str], standing: Callable[[], Standing]) -> Translation:
-    """A command's translation with what packages put into it."""
+def translated(found: Translation, word: str, lists: AbstractSet[str], standing: Callable[[], Standing], placed: Optional[Placed] = None) -> Translation:
+    """A command's translation with what packages put into it; `placed` is what stands in place of its rules."""
     if word not in _USING or found.error is not None:
         return found
     has_step = word == "e" and any(one in found.text for one in steps.WORDS)
     has_list = bool(lists) and any(one in lists for one in _NAMES.findall(found.text))
-    if not has_step and not has_list:
+    has_rules = placed is not None and placed[0] == found.text
+    if not has_step and not has_list and not has_rules:
         return found
     now = standing()
     asking = Asking(now)
     try:
+        if has_rules and isinstance(placed[1], Misread):
+            raise placed[1]
         made: List[Change] = listed.changes(found.text, asking) if has_list else []
+        made += placed[1] if has_rules else []
         if has_step:
             statement = now.open[1] if now.open else None
             made += steps.changes(found.text, asking, statement, now.steps)

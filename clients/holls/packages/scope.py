@@ -139,6 +139,7 @@ class Standing:
     relations: Dict[str, Relation] = field(default_factory=dict)
     lists: Dict[str, Tuple[str, ...]] = field(default_factory=dict)
     functions: Set[str] = field(default_factory=set)
+    definitions: Dict[str, str] = field(default_factory=dict)
     open: Optional[Tuple[str, str]] = None
     steps: List[str] = field(default_factory=list)
 
@@ -147,7 +148,7 @@ class Standing:
         """What stands where these have been imported."""
         made = Standing()
         for other in imported:
-            for key in ("constants", "arities", "theorems", "data", "relations", "lists"):
+            for key in ("constants", "arities", "theorems", "data", "relations", "lists", "definitions"):
                 getattr(made, key).update(getattr(other, key))
             made.functions |= other.functions
         return made
@@ -190,6 +191,7 @@ class Standing:
         head = quoted.split(None, 1)
         name = head[0].split(":")[0].split("=")[0] if head else ""
         self.constants.setdefault(name, _Definition(quoted))
+        self.definitions.setdefault(name, quoted)
         self.theorems.setdefault(theorem, ("definition", name))
 
     def _define_type(self, names: List[str]) -> None:
@@ -282,7 +284,18 @@ class Standing:
             except (Misread, RecursionError):
                 kept = None
             self.theorems[name] = kept
-        return kept if isinstance(kept, tuple) and kept[0] != "definition" else None
+        if isinstance(kept, tuple) and kept[0] == "definition":
+            return self._definition(kept[1])
+        return kept if isinstance(kept, tuple) else None
+
+    def _definition(self, name: str) -> Optional[Term]:
+        """What the definition of a constant says."""
+        if name not in self.definitions or self.type_of(name) is None:
+            return None
+        try:
+            return _said(self.definitions[name], name, self)
+        except (Misread, RecursionError):
+            return None
 
     def constructor(self, name: str) -> Optional[Tuple[Data, Constructor]]:
         """The constructor of an inductive type."""
@@ -333,6 +346,21 @@ def _defined_type(text: str, inside: _Inside) -> Type:
     if defined.symbol == "<=>":
         unify(result, BOOL)
     return solved(fun(*bound.values(), result), namer(defined.body, inside))
+
+
+def _said(text: str, name: str, standing: Standing) -> Term:
+    """The theorem of a definition."""
+    defined = definition.read(Reader(text.strip(), EMPTY, None))
+    check_depth(defined.body)
+    inference = Inference(standing)
+    bound = {one.name: inference.type(one.type) if one.type else terms.Meta() for one in defined.arguments}
+    body = inference.term(defined.body, bound)
+    general = standing.type_of(name)
+    unify(fun(*bound.values(), type_of(body)), general)
+    named = namer(defined.body, standing)
+    closed = inference.closed(body, named)
+    arguments = [terms.var(one, solved(type_, named)) for one, type_ in bound.items()]
+    return terms.forall(arguments, terms.eq(terms.app(terms.const(name, general), *arguments), closed))
 
 
 class Asking:

@@ -1,0 +1,221 @@
+"""Rules where a theorem stands in a step: `GSYM th`, `CONJ th th`, `GEN_ALL th`, `BETA_RULE th`, `MATCH_MP th th`.
+
+Each is a hidden theorem in front of the proof, whose statement is found here and whose proof is a step or two; in the step stands its name.
+"""
+
+from __future__ import annotations
+
+import re
+from dataclasses import dataclass, field
+from typing import Dict, List, NamedTuple, Set, Tuple
+
+from holls.notation import FORWARD
+from holls.packages.inference import check_depth, typed
+from holls.packages.output import HIDDEN, PROOF, Plain, Steps, commands, conjuncts
+from holls.packages.printing import show
+from holls.packages.scope import Asking
+from holls.packages.steps import Change, outside
+from holls.packages.terms import (Term, Type, beta, conj, eq, forall, frees, is_binder, is_operation, names, strip, subst, tyinst, tymatch, tyshow,
+                                  typeof, var)
+from holls.surface.errors import Misread
+from holls.surface.reader import Reader
+from holls.surface.table import EMPTY
+
+RULES: Dict[str, str] = {
+    "GSYM": "GSYM th", "CONJ": "CONJ th th", "GEN_ALL": "GEN_ALL th", "BETA_RULE": "BETA_RULE th", "MATCH_MP": "MATCH_MP th th"}
+"""The rules, and how each is written."""
+_WORD = re.compile(r"(?<![A-Za-z0-9_'])(?:%s)(?![A-Za-z0-9_'])" % "|".join(RULES))
+_TOKEN = re.compile(r"`[^`]*`|[A-Za-z_][A-Za-z0-9_']*|[^ \t\r\n]")
+_MOST_NESTED = 50
+
+
+class Theorem(NamedTuple):
+    """A theorem's plain expression, and its statement."""
+
+    text: str
+    statement: Term
+
+
+@dataclass
+class Lemmas:
+    """The hidden theorems of a proof, and what its steps have in place of rules."""
+
+    name: str
+    asking: Asking
+    plain: List[Plain] = field(default_factory=list)
+    made: int = 0
+
+    def add(self, statement: Term, steps: Steps, told: str) -> Theorem:
+        """Makes a hidden theorem."""
+        self.made += 1
+        name = "pk_%s_%d" % (self.name, self.made)
+        text = show(statement, self.asking.general)
+        self.plain.append(Plain("g %s `%s`" % (name, text), HIDDEN, None, told))
+        self.plain += [Plain("e " + one, PROOF, None, told) for one in commands(steps)]
+        self.plain.append(Plain("qed", HIDDEN, None, told))
+        return Theorem(name, statement)
+
+
+def has_rules(text: str) -> bool:
+    """Whether a command's text has a rule outside of its quotations."""
+    return bool(_WORD.search(text)) and bool(_WORD.search(outside(text)))
+
+
+def changes(text: str, lemmas: Lemmas) -> List[Change]:
+    """What a step has in place of its rules. Raises `Misread`."""
+    plain = outside(text)
+    found: List[Change] = []
+    at = 0
+    while True:
+        match = _WORD.search(plain, at)
+        if match is None:
+            return found
+        reader = _Reader(text, match.start(), lemmas)
+        theorem = reader.theorem(0)
+        found.append(Change(match.start(), reader.at, theorem.text))
+        at = reader.at
+
+
+class _Reader:
+    """Reads a theorem's expression in a step from a place on."""
+
+    def __init__(self, text: str, at: int, lemmas: Lemmas) -> None:
+        self.text, self.at, self.lemmas, self.asking = text, at, lemmas, lemmas.asking
+
+    def wrong(self, start: int, text: str) -> Misread:
+        """An error from a place to where the reader is."""
+        return Misread(start, max(self.at, start + 1), text)
+
+    def token(self) -> str:
+        """The next token."""
+        found = _TOKEN.search(self.text, self.at)
+        if found is None:
+            raise Misread(max(0, len(self.text) - 1), len(self.text), "a theorem is missing here")
+        self.at = found.end()
+        return found.group()
+
+    def quoted(self) -> Term:
+        """A quotation's term."""
+        start = self.at
+        found = self.token()
+        if not found.startswith("`"):
+            raise self.wrong(start, "a quotation is missing here")
+        reader = Reader(found[1:-1].strip(), EMPTY, None)
+        try:
+            return typed(check_depth(reader.ended(reader.term())), self.asking)[0]
+        except Misread as error:
+            raise self.wrong(start, error.text) from None
+
+    def theorem(self, depth: int, is_argument: bool = False) -> Theorem:
+        """A theorem's expression; as an argument a name, or one between parentheses."""
+        if depth > _MOST_NESTED:
+            raise self.wrong(self.at - 1, "these rules are nested too deeply")
+        start = _TOKEN.search(self.text, self.at)
+        begin = start.start() if start else self.at
+        word = self.token()
+        if word == "(":
+            found = self.theorem(depth + 1)
+            if self.token() != ")":
+                raise self.wrong(begin, "`)` is missing behind this theorem")
+            return found
+        if word in RULES and not is_argument:
+            return self.rule(word, begin, depth)
+        if word in FORWARD and not is_argument:
+            return self.forward(word, begin, depth)
+        statement = self.asking.statement(word)
+        if statement is None:
+            raise self.wrong(begin, "no theorem `%s` whose statement is known stands before this proof" % word)
+        return Theorem(word, statement)
+
+    def forward(self, word: str, begin: int, depth: int) -> Theorem:
+        """One of the program's own rules."""
+        if word == "SPEC":
+            term = self.quoted()
+            inner = self.theorem(depth + 1, True)
+            if not is_binder(inner.statement, "!") or inner.statement[2][2] != typeof(term):
+                raise self.wrong(begin, "SPEC wants a theorem !x. p and a term of x's type")
+            bound = inner.statement[2]
+            return Theorem("(SPEC `%s` %s)" % (show(term, self.asking.general), inner.text), subst(bound[3], {bound[1]: term}))
+        if word in ("SYM", "CONJUNCT1", "CONJUNCT2"):
+            inner = self.theorem(depth + 1, True)
+            wanted = "=" if word == "SYM" else "/\\"
+            if not is_operation(inner.statement, wanted):
+                raise self.wrong(begin, "%s wants a theorem %s" % (word, "s = t" if word == "SYM" else "p /\\ q"))
+            left, right = inner.statement[1][2], inner.statement[2]
+            return Theorem("(%s %s)" % (word, inner.text), eq(right, left) if word == "SYM" else left if word == "CONJUNCT1" else right)
+        if word == "MP":
+            first, second = self.theorem(depth + 1, True), self.theorem(depth + 1, True)
+            if not is_operation(first.statement, "==>"):
+                raise self.wrong(begin, "MP wants a theorem p ==> q first")
+            return Theorem("(MP %s %s)" % (first.text, second.text), first.statement[2])
+        raise self.wrong(begin, "%s isn't taken inside of a rule: a rule's theorem stands in front of the proof" % word)
+
+    def rule(self, word: str, begin: int, depth: int) -> Theorem:
+        """A rule that makes a hidden theorem."""
+        first = self.theorem(depth + 1, True)
+        told = "%s makes no theorem of %s" % (word, first.text)
+        if word == "GSYM":
+            statement, steps = self.turned(first, begin)
+            return self.lemmas.add(statement, steps, told)
+        if word == "BETA_RULE":
+            return self.lemmas.add(beta(first.statement), ["MP_TAC %s" % first.text, "BETA_TAC", "DISCH_THEN ACCEPT_TAC"], told)
+        if word == "GEN_ALL":
+            free = [var(*one) for one in frees(first.statement).items()]
+            return self.lemmas.add(forall(free, first.statement), [*_generalized(free), "ACCEPT_TAC %s" % first.text], told)
+        second = self.theorem(depth + 1, True)
+        if word == "CONJ":
+            both: Steps = [("CONJ_TAC", [["ACCEPT_TAC %s" % first.text], ["ACCEPT_TAC %s" % second.text]])]
+            return self.lemmas.add(conj([first.statement, second.statement]), both, told)
+        return self.matched(first, second, begin, told)
+
+    def turned(self, theorem: Theorem, begin: int) -> Tuple[Term, Steps]:
+        """A theorem with all its equations from right to left, and the proof of it."""
+        variables, body = strip(theorem.statement)
+        text = theorem.text
+        for one in variables:
+            text = "(SPEC `%s:%s` %s)" % (one[1], tyshow(one[2]), text)
+        if is_operation(body, "/\\"):
+            parts = [self.turned(Theorem("(%s %s)" % (side, text), part), begin) for side, part in (("CONJUNCT1", body[1][2]), ("CONJUNCT2", body[2]))]
+            return forall(variables, conj([one for one, _ in parts])), [*_generalized(variables), *conjuncts([steps for _, steps in parts])]
+        if not is_operation(body, "="):
+            raise self.wrong(begin, "GSYM wants equations, under ! and /\\, and this has another part")
+        return forall(variables, eq(body[2], body[1][2])), [*_generalized(variables), "ACCEPT_TAC (SYM %s)" % text]
+
+    def matched(self, first: Theorem, second: Theorem, begin: int, told: str) -> Theorem:
+        """Of `!xs. p ==> q` and an instance of p that of q."""
+        variables, body = strip(first.statement)
+        if not is_operation(body, "==>"):
+            raise self.wrong(begin, "MATCH_MP wants a theorem !x. p ==> q first")
+        to: Dict[str, Term] = {}
+        types: Dict[str, Type] = {}
+        if not _match(body[1][2], second.statement, {one[1] for one in variables}, to, types, {}):
+            raise self.wrong(begin, "the second theorem is no instance of what the first one asks")
+        text = first.text
+        if types and any(name != type_ for name, type_ in types.items()):
+            text = "(INST_TYPE [%s] %s)" % ("; ".join("`:%s`,`:%s`" % (tyshow(type_), name) for name, type_ in types.items()), text)
+        rest = [var(one[1], tyinst(one, types)[2]) for one in variables if one[1] not in to]
+        for one in variables:
+            text = "(SPEC `%s` %s)" % (show(to.get(one[1], tyinst(one, types)), self.asking.general), text)
+        statement = forall(rest, subst(tyinst(body[2], types), to))
+        return self.lemmas.add(statement, [*_generalized(rest), "ACCEPT_TAC (MP %s %s)" % (text, second.text)], told)
+
+
+def _generalized(variables: List[Term]) -> Steps:
+    return ["X_GEN_TAC `%s:%s`" % (one[1], tyshow(one[2])) for one in variables]
+
+
+def _match(pattern: Term, term: Term, variables: Set[str], to: Dict[str, Term], types: Dict[str, Type], bound: Dict[str, str]) -> bool:
+    """Whether a term is an instance of a pattern; `to` and `types` then make it so."""
+    kind = pattern[0]
+    if kind == "v" and pattern[1] in variables and pattern[1] not in bound:
+        if tymatch(pattern[2], typeof(term), types) is None or set(names(term)) & set(bound.values()):
+            return False
+        return to.setdefault(pattern[1], term) == term
+    if kind != term[0]:
+        return False
+    if kind == "@":
+        return all(_match(pattern[at], term[at], variables, to, types, bound) for at in (1, 2))
+    if kind == "\\":
+        return tymatch(pattern[2], term[2], types) is not None and _match(pattern[3], term[3], variables, to, types, {**bound, pattern[1]: term[1]})
+    return bound.get(pattern[1], pattern[1]) == term[1] and tymatch(pattern[2], term[2], types) is not None
+
