@@ -21,6 +21,7 @@ import zlib
 from holls.course import layout
 from holls.serving import command, usage
 from holls.serving.rates import Bucket, ByAddress
+from holls.serving.watching import Class, from_cookie, name_of, to_cookie
 from holls.websocket import Closed, WebSocket, new_key
 from tests.helpers import HOLLS, ROOT, SECONDS, fake
 from tests.test_page_server import Editor
@@ -63,12 +64,35 @@ class Parts(unittest.TestCase):
 
     def test_the_page_of_a_course_has_links_that_hold_the_exercises_and_no_markup_of_a_text(self):
         course = layout.read(str(COURSE))
-        found = dict(re.findall(r'href="\./#theory=(\w+)\.([\w-]+)"', command.exercises(course)))
+        found = dict(re.findall(r'href="\./#theory=(\w+)\.([\w-]+)"', command.exercises(course, "Ann")))
         self.assertEqual(list(found), ["implications", "equations", "quantifiers"])
         data = found["equations"]
         self.assertEqual(zlib.decompress(base64.urlsafe_b64decode(data + "=" * (-len(data) % 4)), -15).decode(), course.files[1].text)
         named = layout.Course("", "<script>", course.files, (), ())
-        self.assertNotIn("<script", command.exercises(named))
+        self.assertNotIn("<script", command.exercises(named, "<script>"))
+
+    def test_who_has_stood_the_longest_comes_first_and_no_name_is_markup(self):
+        now = [0.0]
+        watched = Class("Logic", {"a": ("A", "B")}, lambda: now[0])
+        watched.hear("ann", [{"file": "a", "proved": [], "open": "A", "goal": "x = x"}])
+        now[0] = 120.0
+        watched.hear("<b>", [{"file": "a", "proved": ["A"], "open": "B", "goal": "p < q"}])
+        watched.hear("ann", [{"file": "a", "proved": [], "open": "A", "goal": "x = x"}])
+        now[0] = 200.0
+        page = watched.page(["ann"])
+        rows = re.findall(r"<tr><td>(.*?)</td></tr>", page)
+        self.assertEqual([row.split("</td><td>") for row in rows], [
+            ["ann", "0 of 2", "a: A", "3 min", "x = x"], ["&lt;b&gt; (away)", "1 of 2", "a: B", "1 min", "p &lt; q"]])
+        watched.hear("ann", [{"file": "a", "proved": ["A", "B"], "open": None, "goal": None}])
+        self.assertIn("<td>ann</td><td>2 of 2</td><td></td><td></td><td></td>", watched.page(["ann"]))
+        for number in range(1000):
+            watched.hear(str(number), [])
+        self.assertNotIn("<td>ann", watched.page([]))
+
+    def test_a_name_comes_back_from_its_cookie(self):
+        for name in ("Ann", "Zoë; x=1", "<b>\"", "日本"):
+            self.assertEqual(from_cookie(to_cookie(name)), name)
+        self.assertEqual((from_cookie(None), from_cookie("%00%0aa%ff"), len(name_of("x" * 100))), ("", "a\ufffd", 60))
 
     @unittest.skipUnless(os.path.isdir("/proc/self"), "what processes use isn't told here")
     def test_what_a_group_uses_is_told(self):
@@ -179,6 +203,25 @@ class Serve(unittest.TestCase):
         other.open("yours", "import mine;;\nimport hol_course;;")
         self.assertEqual(other.said("yours")[0], "there is no theory mine here: open it, or make a new one of that name")
         self.assertEqual(json.load(self.get("/health"))["sessions"], 2)
+
+    def test_a_teacher_sees_who_is_where_and_nobody_else_does(self):
+        self.serve("--teacher-key", "secret")
+        answer = self.get("/course?name=Zo%C3%AB%20%3Cb%3E")
+        cookie = answer.getheader("Set-Cookie").split(";")[0]
+        self.assertIn('value="Zoë &lt;b&gt;"', answer.read().decode())
+        editor = Editor(self.socket(Cookie=cookie))
+        editor.open("equations", "import week;;\ng SAME `x = x`;;\ne REFL_TAC;;\nqed;;\ng TWO `f x = f x`;;\ne ALL_TAC;;\n")
+        editor.said("equations")
+        end = time.monotonic() + SECONDS
+        row = ""
+        while "1 of 3" not in row and time.monotonic() < end:
+            time.sleep(0.2)
+            row = "".join(re.findall("<tr><td>Zo.*?</tr>", self.get("/teacher/secret").read().decode()))
+        self.assertEqual(re.findall("<td>(.*?)</td>", row), [
+            "Zoë &lt;b&gt;", "0 of 4", "1 of 3", "0 of 3", "equations: TWO", "0 min", "f x = f x"])
+        self.assertFalse(any(one.get("method") == "$/hol/course" for one in editor.told))
+        for path in ("/teacher/", "/teacher/other", "/teacher", "/teacher/secret/x"):
+            self.assertEqual(self.get(path).status, 404, path)
 
     def test_sessions_have_limits_that_are_told(self):
         self.serve("--sessions", "3", "--each", "2", "--behind-proxy")

@@ -7,6 +7,7 @@ import base64
 import functools
 import html
 import os
+import secrets
 import socket
 import zlib
 from pathlib import Path
@@ -18,6 +19,8 @@ from holls.course import layout
 from holls.course.layout import BadCourse, Course
 from holls.lsp import bridge
 from holls.say import complain
+from holls.serving.progress import Exercises, Watched
+from holls.serving.watching import Class
 
 try:
     from aiohttp import web
@@ -48,6 +51,7 @@ def add_words(words: argparse.ArgumentParser) -> None:
     words.add_argument("--memory", type=int, default=1000, metavar="MEGABYTES", help="how much memory a page's programs may have (1000)")
     words.add_argument("--processor", type=int, default=1800, metavar="SECONDS", help="how long a page's programs may compute in all (1800)")
     words.add_argument("--idle", type=int, default=60, metavar="MINUTES", help="a page in which nothing is done for so long is let go (60)")
+    words.add_argument("--teacher-key", metavar="KEY", help="with a course: the word in the address of the teacher's page (one that is made anew each time)")
     words.add_argument("--rate", type=int, default=200, help="so many requests a second from one address in the long run (200)")
 
 
@@ -88,7 +92,8 @@ def _serve(given: argparse.Namespace) -> int:
     words = server.find(given.server)
     probed = bridge.Probed(bridge.Program(words, server.probe(words)), None)
     limits = bridge.Limits(True, str(library), bridge.HELD_MESSAGES, service.MESSAGE_BYTES, bridge.HELD_LAST_SECONDS, tuple(map(str, before)))
-    born = nursery.Nursery(functools.partial(_bear, probed, given.seconds, limits), given.processor)
+    names = {one.name: tuple(each.name for each in one.exercises) for one in course.files} if course else {}
+    born = nursery.Nursery(functools.partial(_bear, probed, given.seconds, limits, names), given.processor)
     try:
         listening = socket.create_server((given.address, given.port), backlog=BACKLOG)
     except OSError as error:
@@ -97,9 +102,12 @@ def _serve(given: argparse.Namespace) -> int:
     own = ["http://%s%s" % (name, "" if port == 80 else ":%d" % port) for name in dict.fromkeys((given.address, "localhost"))]
     settings = service.Settings(
         page, (*before, library), tuple(dict.fromkeys([*own, *map(_origin, given.origin)])), given.sessions, given.each, given.idle * 60.0,
-        given.processor, given.memory, given.rate, given.behind_proxy, exercises(course) if course else None)
+        given.processor, given.memory, given.rate, given.behind_proxy,
+        functools.partial(exercises, course) if course else None, Class(course.title, names) if course else None, given.teacher_key or secrets.token_urlsafe(16))
     _raise_files()
     print("the page is at %s/%s (end it by Ctrl-C)" % (own[0], "course" if course else ""), flush=True)
+    if course:
+        print("how far all are, for the teacher alone: %s/teacher/%s" % (settings.origins[-1] if given.origin else own[0], settings.key), flush=True)
     web.run_app(service.Service(settings, born).application(), sock=listening, print=None, access_log=None, shutdown_timeout=service.END_SECONDS)
     return 0
 
@@ -114,10 +122,10 @@ def _origin(address: str) -> Optional[str]:
     return "%s://%s" % (parts.scheme, parts.netloc) if is_one else None
 
 
-def _bear(probed: bridge.Probed, seconds: int, limits: bridge.Limits, pair: socket.socket) -> None:
+def _bear(probed: bridge.Probed, seconds: int, limits: bridge.Limits, names: Exercises, pair: socket.socket) -> None:
     """Runs a bridge, in a process of its own."""
-    made = bridge.Bridge(pair.makefile("wb"), None, seconds, limits)
-    made.probed = probed
+    made = Watched(pair.makefile("wb"), None, seconds, limits)
+    made.probed, made.exercises = probed, names
     bridge.serve(pair.makefile("rb"), made)
 
 
@@ -129,16 +137,19 @@ def _raise_files() -> None:
     resource.setrlimit(resource.RLIMIT_NOFILE, (hard, hard))
 
 
-def exercises(course: Course) -> str:
-    """The page with a course's exercises: a link for each file, which opens it in the reader's page. It has no script, and no text is taken for markup."""
+def exercises(course: Course, student: str) -> str:
+    """The page with a course's exercises for a student of a name: a link for each file, which opens it in the reader's page. It has no script, and no text
+    is taken for markup."""
     items = "".join("<li><a href=\"%s\">%s</a>: %s</li>\n" % (
         html.escape("./" + link(given.name, given.text)), html.escape(given.name),
         html.escape(", ".join(one.name for one in given.exercises))) for given in course.files)
     title = html.escape(course.title)
     return ("<!DOCTYPE html>\n<html lang=\"en\"><head><meta charset=\"utf-8\"><title>%s</title><link rel=\"stylesheet\" href=\"style.css\">"
-            "<meta name=\"viewport\" content=\"width=device-width\"></head><body class=\"course\"><main><h1>%s</h1>\n<ol>\n%s</ol>\n"
+            "<meta name=\"viewport\" content=\"width=device-width\"></head><body class=\"course\"><main><h1>%s</h1>\n"
+            "<form action=\"course\" method=\"get\"><label>Your name, which your teacher sees: <input name=\"name\" maxlength=\"60\" value=\"%s\"></label> "
+            "<button>That's me</button></form>\n<ol>\n%s</ol>\n"
             "<p>A link opens the exercise in your browser, which keeps what you write. \"Save\" makes the file that you hand in.</p>"
-            "</main></body></html>\n") % (title, title, items)
+            "</main></body></html>\n") % (title, title, html.escape(student), items)
 
 
 def link(name: str, text: str) -> str:

@@ -7,15 +7,18 @@ limit is told to the page in a sentence, when its socket is closed, and ends tha
 from __future__ import annotations
 
 import asyncio
+import hmac
 from dataclasses import dataclass, field
 from pathlib import Path
-from typing import Dict, List, Optional, Sequence, Tuple
+from typing import Any, Callable, Dict, List, Optional, Sequence, Tuple
 from urllib.parse import urlsplit
 
 from aiohttp import WSCloseCode, WSMsgType, web
 
 from holls.serving import nursery, usage
+from holls.serving.progress import MARK, params
 from holls.serving.rates import Bucket, ByAddress
+from holls.serving.watching import COOKIE, Class, from_cookie, name_of, to_cookie
 
 MESSAGE_BYTES = 4 << 20
 """A longer message, either way, ends the session."""
@@ -29,6 +32,8 @@ FULL, IDLE, ENDED, SPENT = 4000, 4001, 4002, 4003
 """What a closed socket says: there is no room; nothing was done for long; the bridge has ended; the session has used up what it may."""
 BURST_SECONDS = 30
 """An address that was quiet may do at once what else it may do in so many seconds."""
+COOKIE_SECONDS = 200 * 24 * 3600
+"""So long a browser keeps a student's name."""
 REASON_BYTES = 123
 """So long is the sentence at most with which a socket is closed."""
 
@@ -45,7 +50,8 @@ End = Tuple[int, str]
 @dataclass(frozen=True)
 class Settings:
     """What the server gives. `origins` are the addresses under which browsers know it, `theories` the folders in which theories are looked for, in
-    their order, and `course` is the page with the exercises, where there is a course."""
+    their order. Where there is a course, `course` makes the page with its exercises for a student's name, `watched` knows how far all are, and who has the
+    `key` sees that."""
 
     page: Path
     theories: Tuple[Path, ...]
@@ -57,15 +63,18 @@ class Settings:
     memory: int
     rate: int
     is_behind_proxy: bool
-    course: Optional[str] = None
+    course: Optional[Callable[[str], str]] = None
+    watched: Optional[Class] = None
+    key: str = ""
 
 
 @dataclass(eq=False)
 class Session:
-    """A page that is open: its socket, its address, the number of its bridge, and what says that it is to end."""
+    """A page that is open: its socket, its address, the name that its student gave, the number of its bridge, and what says that it is to end."""
 
     socket: "web.WebSocketResponse"
     address: str
+    student: str = ""
     process: int = 0
     spent: "asyncio.Future[End]" = field(default_factory=lambda: asyncio.get_running_loop().create_future())
 
@@ -85,7 +94,7 @@ class Service:
         made = web.Application(middlewares=[_middleware(self._guard)], client_max_size=1 << 16)
         made.add_routes([
             web.get("/bridge", self._bridge), web.get("/health", self._health), web.get("/course", self._course), web.get("/", self._file),
-            web.get("/{name}", self._file), web.get("/theories/{name}", self._theory)])
+            web.get("/teacher/{key}", self._teacher), web.get("/{name}", self._file), web.get("/theories/{name}", self._theory)])
         made.cleanup_ctx.append(self._looking)
         made.on_shutdown.append(self._shut)
         return made
@@ -123,10 +132,26 @@ class Service:
         return {"Content-Type": kind, "Cache-Control": "no-cache", "Content-Security-Policy": self._policy, "X-Content-Type-Options": "nosniff",
                 "Referrer-Policy": "no-referrer"}
 
-    async def _course(self, _: "web.Request") -> "web.StreamResponse":
+    async def _course(self, request: "web.Request") -> "web.StreamResponse":
+        """The exercises. Who gives a name there is known by it from then on: a teacher sees who is where."""
         if self.settings.course is None:
             raise web.HTTPNotFound()
-        return web.Response(text=self.settings.course, headers=self._headers(_KINDS[".html"]))
+        given = request.query.get("name")
+        name = from_cookie(request.cookies.get(COOKIE)) if given is None else name_of(given)
+        headers = dict(self._headers(_KINDS[".html"]))
+        headers["Content-Security-Policy"] = self._policy.replace("form-action 'none'", "form-action 'self'")
+        answer = web.Response(text=self.settings.course(name), headers=headers)
+        if given is not None:
+            answer.set_cookie(COOKIE, to_cookie(name), httponly=True, samesite="Strict", max_age=COOKIE_SECONDS)
+        return answer
+
+    async def _teacher(self, request: "web.Request") -> "web.StreamResponse":
+        """How far all are, to who has the key."""
+        watched = self.settings.watched
+        if watched is None or not hmac.compare_digest(request.match_info["key"].encode("utf-8", "replace"), self.settings.key.encode()):
+            raise web.HTTPNotFound()
+        there = list(dict.fromkeys(session.student for session in self.sessions if session.student))
+        return web.Response(text=watched.page(there), headers=self._headers(_KINDS[".html"]))
 
     async def _health(self, _: "web.Request") -> "web.StreamResponse":
         return web.json_response({"sessions": len(self.sessions), "room": self.settings.sessions - len(self.sessions)})
@@ -139,7 +164,7 @@ class Service:
             raise web.HTTPForbidden(text="the page comes from elsewhere: --origin says from where it may come\n")
         page = web.WebSocketResponse(heartbeat=BEAT_SECONDS, max_msg_size=MESSAGE_BYTES, timeout=END_SECONDS)
         await page.prepare(request)
-        session = Session(page, self._address(request))
+        session = Session(page, self._address(request), from_cookie(request.cookies.get(COOKIE)))
         refused = self._refused(session.address)
         if refused:
             await _close(page, (FULL, refused))
@@ -167,7 +192,7 @@ class Service:
             await _close(page, (ENDED, "no program can be started: %s" % (error.strerror or error)))
             return
         reader, writer = await asyncio.open_connection(sock=pair)
-        telling = asyncio.ensure_future(_tell(reader, page))
+        telling = asyncio.ensure_future(_tell(reader, page, lambda told: self._take(session, told)))
         hearing = asyncio.ensure_future(_hear(page, writer, self.settings.idle_seconds))
         try:
             await asyncio.wait({telling, hearing, session.spent}, return_when=asyncio.FIRST_COMPLETED)
@@ -185,6 +210,11 @@ class Service:
             session.spent.cancel()
             writer.close()
             await _close(page, end)
+
+    def _take(self, session: Session, told: List[Dict[str, Any]]) -> None:
+        """Takes how far a page is."""
+        if self.settings.watched is not None:
+            self.settings.watched.hear(session.student or session.address, told)
 
     async def _looking(self, _: "web.Application"):  # noqa: ANN202: aiohttp's way to begin and end something with the server
         task = asyncio.ensure_future(self._look())
@@ -247,13 +277,16 @@ async def _close(page: "web.WebSocketResponse", end: End) -> None:
         await page.close(code=code, message=words.encode("utf-8")[:REASON_BYTES])
 
 
-async def _tell(reader: asyncio.StreamReader, page: "web.WebSocketResponse") -> End:
-    """Hands a bridge's messages to its page. What the page doesn't read, the bridge can't write."""
+async def _tell(reader: asyncio.StreamReader, page: "web.WebSocketResponse", take: Callable[[List[Dict[str, Any]]], None]) -> End:
+    """Hands a bridge's messages to its page, but for those that tell how far it is. What the page doesn't read, the bridge can't write."""
     bytes_ = Bucket(BYTES, MOST_BYTES)
     while True:
         body = await _body(reader)
         if body is None:
             return ENDED, "the bridge has ended: it begins anew"
+        if body.startswith(MARK):
+            take(params(body))
+            continue
         if len(body) > MESSAGE_BYTES:
             return ENDED, "an answer has more than %d MB: this page begins anew" % (MESSAGE_BYTES >> 20)
         if page.closed:

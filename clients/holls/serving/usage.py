@@ -21,7 +21,7 @@ def of_groups(groups: Iterable[int]) -> Dict[int, Usage]:
     found = {group: Usage() for group in groups}
     for name in _processes() if found else ():
         told = _told(name)
-        group = int(told[2]) if len(told) > 21 else 0
+        group = int(told[2]) if len(told) > 21 else None  # None of one that has just ended.
         if group in found:
             ticks = sum(int(part) for part in told[11:15])
             was = found[group]
