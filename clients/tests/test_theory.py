@@ -1,5 +1,6 @@
 """Keeping theories in step, and what is kept of what is known: random edits of three files that import one another."""
 
+import functools
 import itertools
 import json
 import pathlib
@@ -13,7 +14,7 @@ from holls.difference import INSERT, REMOVE, REPLACE
 from holls.lsp.workspace import Workspace
 from holls.sweep import unknown
 from holls.theory import DROP, NEW, Change, Standing, Theory
-from tests.fake_server import EDITS, Documents
+from tests.fake_server import EDITS, Documents, Slot
 from tests.helpers import BUILT, proofs
 
 NAMES = ("A", "B", "C")
@@ -72,7 +73,13 @@ class Mirror:
         return self.documents.answer(line)
 
     def report(self, theory, at):
-        return protocol.reply(json.dumps(self.answer(protocol.line({"op": "report", "theory": theory.name, "at": at}))).encode())
+        return read(json.dumps(self.answer(protocol.line({"op": "report", "theory": theory.name, "at": at}))))
+
+
+@functools.lru_cache(1 << 12)
+def read(reply):
+    """What a reply says."""
+    return protocol.reply(reply.encode())
 
 
 class ProgramMirror(Mirror):
@@ -124,13 +131,13 @@ class InStep(unittest.TestCase):
 
     def compare(self, mirror, theories, served):
         """What was known and is kept is what a fresh server says; what isn't known is asked for."""
-        fresh = Mirror(served)
-        fresh.bring(theories)
+        fresh = Documents(served)
+        fresh.theories = fresh.run([(theory.name, [Slot(entry.sent) for entry in theory.entries]) for theory in theories])
         for theory in theories:
             mirror.ask(theory)
-            for at, entry in enumerate(theory.entries):
+            for at, (entry, slot) in enumerate(zip(theory.entries, fresh.slots(theory.name))):
                 if not entry.is_hidden:
-                    self.assertEqual(entry.report, fresh.report(theory, at), (theory.name, at, entry.text))
+                    self.assertEqual(entry.report, read(json.dumps(slot.reply)), (theory.name, at, entry.text))
 
     def test_an_edit_in_a_proof_asks_for_no_report_behind_it(self):
         """Unless the proof is broken, or whole again; and nothing is asked where a text is what it was before."""
