@@ -78,16 +78,16 @@ class Folders(unittest.TestCase):
         self.assertIn("name more than %d folders" % projects.MOST_FOLDERS, said.replace("names more", "name more"))
 
     def test_a_theory_of_the_library_is_found_from_everywhere(self):
-        (self.folder / "A.hol").write_text("import sets;;\nimport nothing_of_this_name;;\n")
+        (self.folder / "A.hol").write_text("import one;;\nimport nothing_of_this_name;;\n")
         _, said, _ = self.holls("check", "A.hol")
         self.assertEqual([line for line in said.splitlines() if "there is no file" in line], [
             "A.hol:2:1: error: there is no file nothing_of_this_name.hol in %s" % self.folder.resolve()])
-        (self.folder / "sets.hol").write_text(proofs(1))  # One's own comes first.
+        (self.folder / "one.hol").write_text(proofs(1))  # One's own comes first.
         _, said, _ = self.holls("check", "A.hol")
-        self.assertIn("\nsets.hol: 4 commands", "\n" + said)
-        (self.folder / "sets.hol").unlink()
+        self.assertIn("\none.hol: 4 commands", "\n" + said)
+        (self.folder / "one.hol").unlink()
         status, said, _ = self.holls("check", "--within", ".", "A.hol")
-        self.assertIn("A.hol:1:1: error: the theory sets is the library's, which lies outside of .: add --within %s" % projects.LIBRARY, said)
+        self.assertIn("A.hol:1:1: error: the theory one is the library's, which lies outside of .: add --within %s" % projects.LIBRARY, said)
 
     def test_within(self):
         other = self.room / "other"
