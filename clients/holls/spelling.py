@@ -202,12 +202,12 @@ def _quotations(file: File, command: Command, spelled: Callable[[int, str], str]
 
 
 def _broken(quotation: str, text: str, start: int, end: int) -> str:
-    """A quotation broken into lines, where it was in several or is too long for one."""
+    """A quotation broken into lines, where it was in several, or has grown and is too long for one."""
     begin = text.rfind("\n", 0, start) + 1
     until = text.find("\n", end)
     column, behind = start - begin, (len(text) if until < 0 else until) - end
     lines = text[start:end].split("\n")
-    if len(lines) == 1 and column + len(quotation) + behind <= WIDTH:
+    if len(lines) == 1 and (column + len(quotation) + behind <= WIDTH or len(quotation) <= end - start):
         return quotation
     margin = re.match(r"[ \t]*", lines[1]).group() if len(lines) > 1 else re.match(r"[ \t]*", text[begin:]).group() + "  "
     made, words = "", quotation.split(" ")

@@ -306,6 +306,13 @@ class Spelling(unittest.TestCase):
             self.assertEqual(spelling.main(argparse.Namespace(kind=kind, files=[str(path)], in_place=False)), status)
         return written.getvalue()
 
+    def test_a_quotation_that_gets_shorter_stays_in_its_line_however_long_that_is(self):
+        with tempfile.TemporaryDirectory() as folder:
+            path = pathlib.Path(folder) / "A.hol"
+            steps = " THEN ".join("EXISTS_TAC `%s`" % "add x y" for _ in range(12))
+            path.write_text(NUMBERS + "g X `T`;;\ne %s;;\n" % steps)
+            self.assertIn("\ne %s;;\n" % steps.replace("add x y", "x + y"), self.spelled("write", path))
+
     def test_long_lines_are_broken(self):
         with tempfile.TemporaryDirectory() as folder:
             path = pathlib.Path(folder) / "A.hol"
