@@ -10,6 +10,7 @@ import re
 import shutil
 import signal
 import socket
+import ssl
 import subprocess
 import sys
 import tempfile
@@ -115,9 +116,8 @@ class Parts(unittest.TestCase):
         self.assertIn(b"apt-get install python3-aiohttp", ran.stderr)
 
 
-@unittest.skipUnless(python(), "no Python here has aiohttp: holls serve isn't tested")
-class Serve(unittest.TestCase):
-    """Over the fake server."""
+class Served(unittest.TestCase):
+    """`holls serve` over the fake server."""
 
     def setUp(self):
         room = tempfile.TemporaryDirectory()
@@ -180,6 +180,9 @@ class Serve(unittest.TestCase):
         """How many programs run."""
         return len(subprocess.run(["pgrep", "-f", "--", "--log %s" % self.log], stdout=subprocess.PIPE).stdout.split())
 
+
+@unittest.skipUnless(python(), "no Python here has aiohttp: holls serve isn't tested")
+class Serve(Served):
     def test_files_and_no_path_that_leaves_their_folders(self):
         self.serve()
         for path, kind in (("/", "text/html"), ("/main.js", "text/javascript"), ("/course", "text/html"), ("/theories/week.hol", "text/plain"),
@@ -352,6 +355,112 @@ class Serve(unittest.TestCase):
             ran = subprocess.run([python(), str(HOLLS), "serve", *given], capture_output=True, timeout=SECONDS)
             self.assertEqual((ran.returncode, ran.stdout), (2, b""))
             self.assertIn(told, ran.stderr)
+
+
+def block(beginning):
+    """A block of docs/SERVE.md, by the line that it begins with."""
+    lines = (ROOT / "docs" / "SERVE.md").read_text().split("\n")
+    start = lines.index("    " + beginning)
+    end = next(at for at in range(start, len(lines)) if lines[at] and not lines[at].startswith("    "))
+    return "\n".join(line[4:] for line in lines[start:end]) + "\n"
+
+
+def free_port():
+    with socket.socket() as one:
+        one.bind(("127.0.0.1", 0))
+        return one.getsockname()[1]
+
+
+@unittest.skipUnless(python() and shutil.which("openssl"), "aiohttp or openssl isn't here: holls serve isn't tested behind a proxy")
+class Proxies(Served):
+    """The configurations of the page, as they stand there but for names and ports."""
+
+    def setUp(self):
+        super().setUp()
+        self.port = free_port()
+        self.origin = "https://localhost:%d" % self.port
+        subprocess.run(["openssl", "req", "-x509", "-newkey", "rsa:2048", "-nodes", "-days", "1", "-subj", "/CN=localhost", "-keyout", str(self.room / "hol.key"),
+                        "-out", str(self.room / "hol.crt")], check=True, capture_output=True)
+        (self.room / "hol.pem").write_text((self.room / "hol.crt").read_text() + (self.room / "hol.key").read_text())
+
+    def begin(self, *words):
+        process = subprocess.Popen(words, stdout=subprocess.DEVNULL, stderr=subprocess.PIPE, cwd=str(self.room))
+        self.addCleanup(process.communicate)
+        self.addCleanup(process.terminate)
+
+    def secure(self):
+        """A connection to the proxy. It is tried until the proxy listens."""
+        def tried():
+            try:
+                made.append(context.wrap_socket(socket.create_connection(("127.0.0.1", self.port), timeout=SECONDS), server_hostname="localhost"))
+            except OSError:
+                return False
+            return True
+        made, context = [], ssl._create_unverified_context()
+        self.until(tried)
+        self.addCleanup(made[0].close)
+        return made[0]
+
+    def asked(self, *lines):
+        """A request by the proxy: the answer's first line, and a socket's reader and writer."""
+        connection = self.secure()
+        reader, writer = connection.makefile("rb"), connection.makefile("wb")
+        for one in (reader, writer):
+            self.addCleanup(self.let_go, one)
+        writer.write("".join(line + "\r\n" for line in (*lines, "Host: localhost:%d" % self.port, "")).encode())
+        writer.flush()
+        status = reader.readline()
+        while reader.readline().strip():
+            pass
+        return status, reader, writer
+
+    def through(self):
+        """A page by the proxy."""
+        status, reader, writer = self.asked("GET /bridge HTTP/1.1", "Upgrade: websocket", "Connection: Upgrade", "Origin: " + self.origin,
+                                            "Sec-WebSocket-Version: 13", "Sec-WebSocket-Key: " + new_key())
+        return Editor(WebSocket(reader, writer, True)) if b" 101 " in status else None
+
+    def proves(self, editor):
+        editor.open("mine", "import week;;\ng N `x = x`;;\ne REFL_TAC;;\nqed;;")
+        self.assertEqual(editor.said("mine"), [])
+
+    @unittest.skipUnless(shutil.which("nginx"), "nginx isn't installed")
+    def test_nginx(self):
+        self.serve("--origin", self.origin, "--behind-proxy", "--each", "1")
+        text = block("server {").replace("listen 443", "listen 127.0.0.1:%d" % self.port).replace("hol.example.edu", "localhost")
+        text = text.replace("/etc/ssl/", str(self.room) + "/").replace("127.0.0.1:8765", self.host)
+        (self.room / "nginx.conf").write_text("daemon off;\npid %s/pid;\nerror_log stderr;\nevents {}\nhttp {\naccess_log off;\n%s}\n" % (self.room, text))
+        self.begin("nginx", "-p", str(self.room), "-c", str(self.room / "nginx.conf"))
+        self.assertIn(b" 200 ", self.asked("GET /course HTTP/1.1")[0])
+        editor = self.through()
+        self.proves(editor)
+        status, reader, writer = self.asked("GET /bridge HTTP/1.1", "Upgrade: websocket", "Connection: Upgrade", "Origin: https://evil.example",
+                                            "Sec-WebSocket-Version: 13", "Sec-WebSocket-Key: " + new_key())
+        self.assertIn(b" 403 ", status)
+
+    @unittest.skipUnless(shutil.which("haproxy"), "haproxy isn't installed")
+    def test_haproxy_over_two_servers_of_which_one_goes_away(self):
+        hosts, processes = [], []
+        for _ in range(2):
+            self.serve("--origin", self.origin, "--behind-proxy")
+            hosts.append(self.host)
+            processes.append(self.process)
+        text = block("frontend hol").replace(":443", "127.0.0.1:%d" % self.port).replace("/etc/ssl/", str(self.room) + "/")
+        text = text.replace("10.0.0.1:8765", hosts[0]).replace("10.0.0.2:8765", hosts[1]).replace("hol.example.edu", "localhost:%d" % self.port)
+        (self.room / "haproxy.cfg").write_text(text)
+        self.begin("haproxy", "-db", "-f", str(self.room / "haproxy.cfg"))
+        self.proves(self.through())
+        used = [json.load(self.health(host))["sessions"] for host in hosts]
+        self.assertEqual(sorted(used), [0, 1])
+        processes[used.index(1)].terminate()
+        self.until(lambda: (self.through() or None) is not None)
+        self.proves(self.through())
+
+    def health(self, host):
+        connection = http.client.HTTPConnection(host, timeout=SECONDS)
+        self.addCleanup(connection.close)
+        connection.request("GET", "/health")
+        return connection.getresponse()
 
 
 if __name__ == "__main__":
