@@ -128,7 +128,7 @@ local declaration | Declares something for this file alone.
 """The commands of a file that declare notation, which the program never gets (docs/WRITING.md)."""
 
 PACKAGES = _entries(r"""
-define_type NAME = CONSTRUCTOR type .. | .. | Declares a type with constructors, and makes its theorems of induction, recursion, cases and equality.
+define_type NAME = CONSTRUCTOR type .. | Declares a type with constructors, and makes its theorems of induction, recursion, cases and equality.
 define NAME `clauses` | Defines functions by clauses with patterns, and makes the theorem NAME of them; `by_measure` says what gets smaller at each call.
 inductive NAME `rules` | Defines the least relation that has the rules, and makes NAME_RULES, NAME_INDUCT, NAME_STRONG_INDUCT and NAME_CASES.
 record NAME = CONSTRUCTOR field:type .. | Declares a type of one constructor, with functions that read and replace its fields, and their laws.

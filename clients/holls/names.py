@@ -12,6 +12,8 @@ from holls.protocol import Made
 from holls.text import Command
 from holls.view import View
 
+HIDDEN = "pk_"
+"""So begin the names of what packages make for themselves."""
 THEOREM, CONSTANT, TYPE, TACTIC = "theorem", "constant", "type", "function on goals"
 IN_TERMS = (CONSTANT, TYPE)
 """The kinds of names that stand in quotations."""
@@ -88,7 +90,8 @@ def blocks(file: File) -> List[Tuple[int, int]]:
 def written(file: File) -> List[Written]:
     """The names that a file's commands make, kept until its text changes."""
     if file.written is None or file.written[0] is not file.notation:
-        made = [one for first, last in blocks(file) if file.commands[first].is_public for one in _made_by(file.commands[first], first, last)]
+        made = [one for first, last in blocks(file) for one in _made_by(file.commands[first], first, last)
+                if file.commands[first].package is None or not one.name.startswith(HIDDEN)]
         file.written = file.notation, made
     return file.written[1]
 
@@ -166,6 +169,7 @@ def name_range(known_name: Known) -> Tuple[int, int]:
 
 def place_of_name(command: Command, name: str) -> Tuple[int, int]:
     """Where a command has a name that it makes; the whole command where it isn't found."""
+    command = command.package or command
     pattern = re.compile(r"(?<![A-Za-z0-9_'])" + re.escape(name) + r"(?![A-Za-z0-9_'])")
     found = pattern.search(command.text, len(command.word)) if name else None
     if not found:
@@ -181,12 +185,28 @@ def uses(files: Sequence[File], target: Known) -> Iterator[Tuple[File, int, int]
         if target.file is not None and file is not target.file and target.file not in graph.all_imports(file, by_name):
             continue
         for number, command in enumerate(file.commands):
+            if command.package is not None:
+                yield from _uses_in_package(file, command, target, pattern)
+                continue
+            if command is not command.as_written and command.text.split("`")[::2] != command.as_written.text.split("`")[::2]:
+                command = command.as_written  # Packages have put something into it.
             if target.name not in command.text:
                 continue
             makes = file is target.file and number == target.number
             for found in pattern.finditer(command.text, len(command.word) if command.word == target.name else 0):
                 if _is_use(command, found.start(), target.kind, makes):
                     yield (file, *command.range(found.start(), found.end()))
+
+
+def _uses_in_package(file: File, command: Command, target: Known, pattern: "re.Pattern[str]") -> Iterator[Tuple[File, int, int]]:
+    """Where a package has a name, told at its first command."""
+    package = command.package
+    if not command.is_first or package.word == "e":
+        return
+    for found in pattern.finditer(package.text, len(package.word)):
+        is_quoted = package.text.count("`", 0, found.start()) % 2 == 1
+        if not is_quoted or target.kind in IN_TERMS and not binders.is_bound(package.text, found.start()):
+            yield (file, *package.range(found.start(), found.end()))
 
 
 def kind_outside(command: Command, place: int) -> str:

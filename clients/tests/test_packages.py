@@ -311,6 +311,19 @@ class Files(unittest.TestCase):
         file = read("define_type t = C | D num;;\ng A `x = x`;;\ne REFL_TAC;;\nqed;;\n")
         self.assertEqual([one["name"] for one in features.symbols(file)], ["t", "A"])
         self.assertEqual(len(features.foldings(file)), 1)
+        self.assertEqual(len(features.foldings(read("define_type t =\n C\n | D num;;\n"))), 1)
+
+    def test_names_lead_to_the_package_and_are_used_in_it(self):
+        file = read("define_type t = C | D num;;\ndefine NODES `NODES C = 0 /\\ NODES (D n) = n`;;\ng A `NODES C = 0`;;\ne REWRITE_TAC [GSYM NODES];;\nqed;;\n")
+        text = file.lines.text
+        for name, kind, number in (("NODES", names.CONSTANT, 3), ("C", names.CONSTANT, 3), ("NODES", names.THEOREM, 2)):
+            found = next(one for one in names.known(file) if one.name == name and one.kind == kind)
+            self.assertEqual(text[slice(*names.name_range(found))], name)
+            used = [(start, end) for _, start, end in names.uses([file], found)]
+            self.assertEqual({text[start:end] for start, end in used}, {name})
+            self.assertEqual(len(used), len(set(used)))
+            self.assertGreaterEqual(len(used), number, (name, kind))
+        self.assertFalse([one.name for one in names.known(file) if one.name.startswith("pk_")])
 
     def test_expand_writes_an_ordinary_file_that_has_the_same_commands(self):
         file = read("define_type t = C | D num;;\ng A `x = C`;;\nsorry;;\n")

@@ -63,7 +63,7 @@ def _package(file: File, command: Command) -> Dict[str, Any]:
 def foldings(file: File) -> List[Dict[str, Any]]:
     """Proofs and comments of several lines."""
     line = file.lines.line
-    found = [(line(file.commands[first].start), line(file.commands[last].end), "region") for first, last in names.blocks(file)]
+    found = list(dict.fromkeys((line(file.commands[first].start), line(file.commands[last].end), "region") for first, last in names.blocks(file)))
     found += [(line(start), line(max(start, end - 1)), "comment") for start, end in file.cut.comments]
     return [{"startLine": first, "endLine": last, "kind": kind} for first, last, kind in found if last > first]
 

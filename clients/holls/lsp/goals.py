@@ -7,6 +7,7 @@ from typing import Any, Dict, List, Optional, Tuple, Union
 
 from holls import protocol, words
 from holls.files import File
+from holls.names import HIDDEN
 from holls.protocol import Goal, Goals, Lost, Made, Refusal
 from holls.theory import Job
 from holls.view import View
@@ -16,9 +17,6 @@ TOGETHER = 300_000
 """So many characters of goals are shown, but the first goal in any case."""
 SHOWN = 20_000
 """So many characters of a term are shown. A report has no limit, and editors have."""
-
-HIDDEN = "pk_"
-"""So begin the names of what packages make for themselves."""
 
 
 @dataclass(frozen=True)
