@@ -406,7 +406,7 @@ def missing_paths(page, text):
     paths += [f"crates/{path}" for path in re.findall(r"(?<![\w/.-])(hol_\w+/(?:src|specs|proofs)/[\w./*]*)", text)]
     for path in paths:
         path = path.rstrip(".-")
-        if "/out/" not in path and not any(ROOT.glob(re.sub(r"\bNAME\b", "*", path.rstrip("/")))):
+        if "/out/" not in path + "/" and not any(ROOT.glob(re.sub(r"\bNAME\b", "*", path.rstrip("/")))):
             yield f"there is no {path}"
 
 
