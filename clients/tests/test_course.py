@@ -209,6 +209,16 @@ class Judging(unittest.TestCase):
         for text in ways:
             self.assertEqual(self.statuses(text, forbidden=["GEN_TAC"]), ("forbidden", "proved"), text)
 
+    def test_a_list_of_theorems_is_another_name_and_stands_for_itself_alone(self):
+        (self.theories / "more.hol").write_text(
+            "g MORE `!x:A. x = x <=> T`;; e GEN_TAC THEN EQ_TAC;; e DISCH_TAC THEN ACCEPT_TAC TRUTH;; e DISCH_TAC THEN REFL_TAC;; qed;;\n")
+        begun, listed = "import more;;\n" + DEFINED, "theorems MINE = [MORE];;\n"
+        by_list = SAME.replace("REFL_TAC", "PURE_REWRITE_TAC [MINE] THEN ACCEPT_TAC TRUTH")
+        for text, forbidden, statuses in ((begun + listed + by_list + FREE, [], ("proved", "proved")),
+                                          (begun + listed + by_list + FREE, ["MORE"], ("forbidden", "proved")),
+                                          (begun + SAME + listed + FREE, ["MORE"], ("proved", "proved"))):
+            self.assertEqual(self.statuses(text, imports=["more"], forbidden=forbidden), statuses, text)
+
     def test_hostile_texts_cost_their_own_exercises_alone(self):
         for before in ("(((" * 2000 + ";;\n", "g X `" + "(" * 5000 + "`;;\n", "g X `" + "x" * 70_000 + "`;;\n", "\0;;\n", ";;" * 500, "`;;\n`;;\n"):
             self.assertEqual(self.statuses(before + SOLVED), ("proved", "proved"), before[:20])

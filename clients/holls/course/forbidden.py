@@ -15,6 +15,10 @@ from holls.text import Command, cut
 
 _QUOTATION = re.compile(r"`[^`]*`?")
 _WORD = re.compile(r"[A-Za-z_][A-Za-z0-9_']*")
+_NAMING = ("g", "deftac", "theorems")
+"""The commands that name what their words, or those of the proof that they begin, lead to."""
+_ENDING = ("qed", "oops", "deftac", "theorems")
+"""Behind these no such thing is begun."""
 
 
 class Use(NamedTuple):
@@ -43,8 +47,8 @@ class _Walk:
             self._take(command)
 
     def _take(self, command: Command) -> None:
-        if command.word in OUTSIDE:
-            self._name = command.name if command.word in ("g", "deftac") else None
+        if command.word in OUTSIDE or command.word in _NAMING:
+            self._name = command.name if command.word in _NAMING else None
         use = self._use(command)
         if use and self._name:
             self.found.setdefault(self._name, use)
@@ -52,6 +56,7 @@ class _Walk:
             self._everywhere = self._everywhere or use
         elif self._name and self._everywhere:
             self.found.setdefault(self._name, self._everywhere)
+        self._name = self._name if command.word not in _ENDING else None
 
     def _use(self, command: Command) -> Optional[Use]:
         """What a command uses that may not be used."""
