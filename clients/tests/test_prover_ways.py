@@ -11,6 +11,7 @@ import time
 import unittest
 from unittest import mock
 
+from holls.protocol import Refusal
 from holls.prover import clock, induction, knowledge, orders, patterns, preparing, reading, scope, serving, typed
 from holls.prover.facts import Fact
 from holls.prover.finder import Finder
@@ -131,6 +132,11 @@ class OverTheLibrary(unittest.TestCase):
                 report = self.library.asker.step(step)
             self.assertEqual((found is None, report.goals[0].conclusion), (wanted is None, wanted or "P m"))
             self.library.asker.back(self.library.count)
+
+    def test_all_theories_go_together(self):
+        said = {file.name: self.library.asker.step("import " + file.name) for file in prover_goals.theories()}
+        self.assertEqual({name: answer for name, answer in said.items() if isinstance(answer, Refusal)}, {})
+        self.library.asker.back(self.library.count)
 
     def test_named_theorems_are_in_no_step_that_needs_none(self):
         found = self.library.prove(prover_goals.Stated("", [], "!(x:A) s t. IN x s /\\ SUBSET s t ==> ~(t = EMPTY)"), False, 30.0)

@@ -16,7 +16,7 @@ from holls.surface.errors import Misread
 from holls.surface.tree import Annotation, Application, Binder, Connective, Name, Negation
 from holls.surface.tree import Term as Tree
 
-LIBRARY = ("MONO_ALL", "MONO_EX")
+LIBRARY = ("MONO_ALL_P", "MONO_EX_P")
 """The theorems of monotonicity that are known, beside those of logic."""
 MOST_RULES = 60
 
