@@ -219,6 +219,12 @@ class Judging(unittest.TestCase):
                                           (begun + SAME + listed + FREE, ["MORE"], ("proved", "proved"))):
             self.assertEqual(self.statuses(text, imports=["more"], forbidden=forbidden), statuses, text)
 
+    def test_a_rule_in_a_step_hides_no_theorem(self):
+        (self.theories / "more.hol").write_text("g MORE `!f x. (f:A->A) x = f x`;; e GEN_TAC THEN GEN_TAC THEN REFL_TAC;; qed;;\n")
+        text = "import more;;\n" + DEFINED + SAME.replace("GEN_TAC THEN", "MP_TAC (GSYM MORE) THEN DISCH_TAC THEN GEN_TAC THEN") + FREE
+        self.assertEqual(self.statuses(text, imports=["more"]), ("proved", "proved"))
+        self.assertEqual(self.statuses(text, imports=["more"], forbidden=["MORE"]), ("forbidden", "proved"))
+
     def test_hostile_texts_cost_their_own_exercises_alone(self):
         for before in ("(((" * 2000 + ";;\n", "g X `" + "(" * 5000 + "`;;\n", "g X `" + "x" * 70_000 + "`;;\n", "\0;;\n", ";;" * 500, "`;;\n`;;\n"):
             self.assertEqual(self.statuses(before + SOLVED), ("proved", "proved"), before[:20])

@@ -77,5 +77,7 @@ class _Walk:
 
 
 def _words(command: Command) -> List[str]:
-    """The words of a command that aren't in quotations: of a package its first one, since the rest is of its own language."""
-    return [command.as_written.word] if command.package is not None else _WORD.findall(_QUOTATION.sub(" ", command.text))
+    """The words of a command that aren't in quotations, as it is written and as it is sent: a rule in a step has a theorem of its own in front of the
+    proof, and a list's name stands for its theorems. Of a package its first word, since the rest is of its own language."""
+    texts = [command.as_written.word] if command.package is not None else [command.as_written.text, command.text]
+    return [word for text in texts for word in _WORD.findall(_QUOTATION.sub(" ", text))]
