@@ -1,5 +1,6 @@
 """Notation: what is read, what is printed, there and back, places, errors, declarations."""
 
+import functools
 import json
 import pathlib
 import random
@@ -126,8 +127,9 @@ def sent(text, table=TABLE, vocabulary=VOCABULARY):
     return found.text[len("e X `"):-1]
 
 
+@functools.lru_cache(1)
 def theories():
-    """The files of theories/, each knowing what it imports."""
+    """The files of theories/, each knowing what it imports. No test changes them."""
     return [file for files in check.ordered([str(ROOT / "theories")]).values() for file in files]
 
 
