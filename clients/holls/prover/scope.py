@@ -18,6 +18,8 @@ from holls.prover.typed import BOOL, Term, Type, fun
 
 ARITHMETIC = "linear"
 """The theory on which steps of arithmetic rest."""
+PACKAGES = ("package_trees", "package_types", "packages")
+"""The theories on which packages rest: their theorems serve what packages make."""
 MOST_INSTANCES = 4
 """So many instances of a theorem's types are taken at most."""
 
@@ -51,6 +53,14 @@ class Scope:
                 self._add(command.word, command.text)
             except (Unreadable, RecursionError, ValueError, KeyError, IndexError):
                 continue
+            if file.name in PACKAGES or command.name.startswith(names.HIDDEN):
+                self._leave_out(command.text.split("`")[0].split()[1:])
+
+    def _leave_out(self, given: Sequence[str]) -> None:
+        """Leaves out theorems and functions that packages have for themselves; their constants stand."""
+        for name in given:
+            for every in (self.theorems, self.definitions, self.functions):
+                every.pop(name, None)
 
     def _add(self, word: str, text: str) -> None:
         """Takes what a command makes."""
