@@ -24,8 +24,8 @@ pub data Stands (docs : Documents) (name : List ℕ) (th : Theorem) : Type 0 whe
   at_end : (i : ℕ) (before : List TheoryRun) (rows : List Row) (state : StateValue) → IsRunUpTo docs i (length (commands_at docs i)) before rows state
       → Contains state.entries (theorem_key name, ATheorem th) → Stands docs name th
 
--- The text is `thm N |- S`, and S is the text of the conclusion of the theorem N that the documents make: it has a derivation over its basis, which is legal, and no hypotheses.
--- If it is |- F, and no item of its basis is an axiom, it has no derivation without the axiom of infinity.
+-- The text is `thm N |- S`, and S is the text of the conclusion of a theorem N that the documents make: it has a derivation over its basis, which is legal, and no hypotheses.
+-- If it is |- F, and no item of its basis is an axiom, it has no derivation without the axiom of infinity, those of the members of its basis' types counted.
 pub record TellsOfTheorem (docs : Documents) (text : List ℕ) : Type 0 where
   pub name : List ℕ
   pub th : Theorem
