@@ -4,7 +4,7 @@
     python3 bench/dear.py [--above MB] [CRATE ..]
 
 The list of a function's states is made by the borrow checker, and names every local at every step. A check takes a time that grows with the square of its size, so a function
-above 3 MB is split (docs/GATE.md, 'What is dear'). The figures need no clock, and so are the same on a busy machine. Run `rt check` or `rt lib` in a crate first. Of a function
+above 3 MB is split (docs/GATE.md, 'Time'). The figures need no clock, and so are the same on a busy machine. Run `rt check` or `rt lib` in a crate first. Of a function
 that was renamed or taken away since, the list stays until out/incremental is deleted.
 """
 import argparse

@@ -4,7 +4,7 @@
     python3 bench/frames.py [PROGRAM] [--least N]
 
 Each line is the bytes that one call of each function of the cycle takes together, and their names with the bytes of each: the registers that it keeps, its locals and
-the return address. How often a cycle comes round for one level of a term or a text isn't told here; docs/GATE.md has the stack that whole inputs take.
+the return address. How often a cycle comes round for one level of a term or a text isn't told here; `tests/hostile.py --depth` measures whole inputs.
 
 Needs Python 3.8, Linux and binutils, and nothing else.
 """

@@ -2,7 +2,7 @@
 """The library of theories beside HOL Light's: which names of HOL Light's files stand in theories/, and which of these say the same. And what the library costs.
 
     python3 bench/library.py [--record FILE] [--all] [--write]
-    python3 bench/library.py --program PATH [--rounds N]
+    python3 bench/library.py --program PATH [--rounds N] [--dear N]
 
 The first needs HOL Light (Debian: apt-get install hol-light libnum-ocaml-dev), which is loaded with the files of FILES in some minutes. Each theorem that a
 file of it names is looked up in theories/; where the name stands, HOL Light's own parser reads our statement, with our names of constants, and its `aconv`
@@ -12,7 +12,7 @@ seconds: there the terms are compared, with their types, as holls.exchange.neutr
 statements that differ; --write puts the table into theories/README.md. The status is 1 where a statement differs that isn't in ALLOWED.
 
 The second measures the program PATH, crates/hol_serve/out/hol_serve: the library from nothing, and a change of a step in the middle of logic.hol whose
-theorem stays.
+theorem stays. With --dear it lists instead what each file and the N dearest proofs take (an import is a proof of its own).
 
 Needs Python 3.9 and Linux, and nothing else.
 """
@@ -27,7 +27,7 @@ import subprocess
 import sys
 import tempfile
 
-from bench import is_done, is_run, measure, put, replace, request, row
+from bench import Session, is_done, is_run, measure, put, replace, request, row
 from hol_light import ROOT as HOL_LIGHT
 
 ROOT = pathlib.Path(__file__).resolve().parents[1]
@@ -43,8 +43,8 @@ from holls.prover.scope import Scope  # noqa: E402 (clients/holls)
 
 FILES = (
     "theorems.ml", "class.ml", "trivia.ml", "pair.ml", "nums.ml", "arith.ml", "wf.ml", "ind_types.ml", "lists.ml", "int.ml", "sets.ml", "iterate.ml",
-    "Library/rstc.ml", "Library/prime.ml", "Library/binomial.ml", "Library/permutations.ml")
-"""The files of HOL Light in the table; of int.ml what is about num alone. The last four aren't among those that hol.ml loads."""
+    "Library/rstc.ml", "Library/prime.ml", "Library/binomial.ml", "Library/permutations.ml", "Library/products.ml", "Library/isum.ml")
+"""The files of HOL Light in the table; of int.ml what is about num alone. The last six aren't among those that hol.ml loads."""
 NAMES = {
     "pair": ",", "add": "+", "mult": "*", "sub": "-", "le": "<=", "lt": "<", "GE": ">=", "GT": ">", "numseg": "..", "cong": "==", "divides": "num_divides",
     "coprime": "num_coprime", "gcd": "num_gcd", "lcm": "num_lcm", "le_c": "<=_c", "lt_c": "<_c", "ge_c": ">=_c", "gt_c": ">_c", "eq_c": "=_c",
@@ -350,6 +350,35 @@ def costs(theories, program, rounds):
     print(f"step {place} of {name}, which alone is run: {1000 * statistics.median(each[2] for each in taken):.2f} ms of processor time", flush=True)
 
 
+def proofs(texts):
+    """The places of each proof, from its `g` to its `qed`, and of each other command."""
+    start = 0
+    for at, text in enumerate(texts):
+        if not texts[start].startswith("g ") or text == "qed":
+            yield start, at + 1
+            start = at + 1
+
+
+def dear(theories, program, most):
+    """Prints what each file takes, the dearest first, and then the dearest proofs."""
+    session, files, taken = Session(program), [], []
+    for place, (name, texts) in enumerate(theories.files):
+        begun, memory = session.processor(), session.peak()
+        session.send([request(op="new_theory", name=name, at=place)])
+        for start, end in proofs(texts):
+            before = session.processor()
+            session.send([request(op="insert", theory=name, at=at, text=texts[at]) for at in range(start, end)])
+            taken.append((session.processor() - before, name, " ".join(texts[start].split("`")[0].split()[:2]), end - start))
+        files.append((session.processor() - begun, name, len(texts), (session.peak() - memory) / 1024))
+    session.close()
+    print("%-24s %9s %9s %9s" % ("file", "ms", "commands", "MB"))
+    for seconds, name, commands, memory in sorted(files, reverse=True):
+        print("%-24s %9.1f %9d %9.1f" % (name, 1000 * seconds, commands, memory))
+    print("%-24s %-40s %9s %9s" % ("file", "proof", "ms", "commands"))
+    for seconds, name, proof, commands in sorted(taken, reverse=True)[:most]:
+        print("%-24s %-40s %9.2f %9d" % (name, proof, 1000 * seconds, commands))
+
+
 def main():
     parser = argparse.ArgumentParser(description=__doc__, formatter_class=argparse.RawDescriptionHelpFormatter)
     parser.add_argument("--record", metavar="FILE", help="compare with the theorems of a recorded run")
@@ -357,8 +386,11 @@ def main():
     parser.add_argument("--write", action="store_true", help="put the table into theories/README.md")
     parser.add_argument("--program", help="measure this program instead")
     parser.add_argument("--rounds", type=int, default=3, help="how often each is measured (3)")
+    parser.add_argument("--dear", type=int, metavar="N", help="list what each file and the N dearest proofs take")
     given = parser.parse_args()
     theories = Theories()
+    if given.program and given.dear:
+        return dear(theories, os.path.abspath(given.program), given.dear)
     if given.program:
         return costs(theories, os.path.abspath(given.program), given.rounds)
     return None if compare(theories, given.record, given.all, given.write) else 1

@@ -1,12 +1,17 @@
 #!/usr/bin/env python3
 """Steps a second from Python (clients/holls/api), and by HOL Light's toplevel, where it is installed: the same steps from the same goals.
 
-    python3 bench/states.py [PROGRAM]
+    python3 bench/states.py [PROGRAM] [--four]
 
 Each of some steps is tried from each of some goals, and its goals are read. HOL Light gets a phrase for each, as one types it: `e (TAC);;`, and
-`b ();;` where it fitted. From Python the steps of a goal go together, and then each alone; and a tree of states is gone through in breadth. Times are
-processor times of all that takes part, so that a machine that does other work shows the same."""
+`b ();;` where it fitted. From Python the steps of a goal go together, and then each alone; and a tree of states is gone through in breadth; the same with
+statements of the library in place of these goals. Times are processor times of all that takes part, so that a machine that does other work shows the same.
+Fewer than LEAST steps a second together or through a tree, or together fewer than TIMES as many as HOL Light's, in the better round, end the run with status 1.
 
+With --four, four processes of Python with a program each do the last of this side by side, by the clock: on a machine that does nothing else."""
+
+import argparse
+import multiprocessing
 import os
 import pathlib
 import sys
@@ -19,6 +24,8 @@ import hol_light  # noqa: E402
 from holls.api import Project, Prover  # noqa: E402
 
 ROUNDS = 2
+LEAST, TIMES = 5000, 8
+THEORY, STATEMENTS = "lists", 12
 GOALS = [
     "!p q. p /\\ q ==> q /\\ p", "!p q r. p /\\ (q \\/ r) <=> p /\\ q \\/ p /\\ r", "!p q. ~(p /\\ q) <=> ~p \\/ ~q", "!p:bool. p ==> p",
     "!P:A->bool Q. (!x. P x /\\ Q x) <=> (!x. P x) /\\ (!x. Q x)", "!(P:A->bool) Q. (?x. P x \\/ Q x) <=> (?x. P x) \\/ (?x. Q x)",
@@ -37,11 +44,21 @@ def seconds_of(process):
         return sum(map(int, stream.read().rsplit(")", 1)[1].split()[11:13])) / os.sysconf("SC_CLK_TCK")
 
 
-def from_python(program):
-    """Steps a second of processor time: together, one by one and through a tree, each with the microseconds that Python and the program take."""
+def first_states(prover, theory):
+    """The states of the goals; or of statements of a theory of the library, at equal distances, as if they were to be proved at its end."""
+    project = Project(prover, str(HERE.parent / "theories"))
+    goals = GOALS
+    if theory:
+        found = list(project.theory(theory).statements.values())
+        goals = [found[at * len(found) // STATEMENTS] for at in range(STATEMENTS)]
+    behind = project.theory(theory or "logic")
+    return [behind.prove("GOAL", goal).state for goal in goals]
+
+
+def from_python(program, theory=None):
+    """Each way with its steps a second of processor time, and the microseconds of a step that Python and the program take."""
     with Prover(program) as prover:
-        theory = Project(prover, str(HERE.parent / "theories")).theory("logic")
-        states = [theory.prove("GOAL", goal).state for goal in GOALS]
+        states = first_states(prover, theory)
         steps = [step + " " * spaces for spaces in range(8) for step in STEPS]  # Each of another text, so that none is found and not run.
         ways = {
             "together": lambda: [after for state in states for after in state.apply_all(steps)],
@@ -52,8 +69,7 @@ def from_python(program):
             own, its = time.process_time(), seconds_of(prover.pids[0])
             count = len(work())
             own, its = time.process_time() - own, seconds_of(prover.pids[0]) - its
-            yield "from Python, %s: %.0f steps a second; of a step's time Python takes %.0f us, the program %.0f us" % (
-                way, count / (own + its), own / count * 1e6, its / count * 1e6)
+            yield way, count / (own + its), own / count * 1e6, its / count * 1e6
 
 
 def breadth(states, most):
@@ -88,14 +104,50 @@ def by_hol_light():
         toplevel.close()
 
 
+def of_the_clock(program, together, counts):
+    """Goes through a tree of the library's states once all are ready. Tells the steps a second by the clock."""
+    with Prover(program) as prover:
+        states = first_states(prover, THEORY)
+        together.wait()
+        begun = time.monotonic()
+        count = len(list(breadth(states, 40)))
+        counts.put(count / (time.monotonic() - begun))
+
+
+def side_by_side(program, number):
+    """The steps a second of so many processes of Python, in all."""
+    together, counts = multiprocessing.Barrier(number), multiprocessing.Queue()
+    processes = [multiprocessing.Process(target=of_the_clock, args=(program, together, counts)) for _ in range(number)]
+    for process in processes:
+        process.start()
+    total = sum(counts.get() for _ in processes)
+    for process in processes:
+        process.join()
+    return total
+
+
 def main():
-    program = sys.argv[1] if len(sys.argv) > 1 else None
-    for number in range(ROUNDS):
-        for line in from_python(program):
-            print("round %d, %s" % (number + 1, line), flush=True)
+    words = argparse.ArgumentParser(description=__doc__, formatter_class=argparse.RawDescriptionHelpFormatter)
+    words.add_argument("program", nargs="?", help="the built program (the one that holls finds)")
+    words.add_argument("--four", action="store_true", help="also four processes side by side")
+    given = words.parse_args()
+    best, beside = {}, 0
+    for number in range(1, ROUNDS + 1):
+        for theory in (None, THEORY):
+            for way, rate, own, its in from_python(given.program, theory):
+                print("round %d, from Python, %s, %s: %.0f steps a second; of a step's time Python takes %.0f us, the program %.0f us" % (
+                    number, theory or "small goals", way, rate, own, its), flush=True)
+                best[theory, way] = max(rate, best.get((theory, way), 0))
         if hol_light.installed():
-            print("round %d, HOL Light's toplevel: %.0f steps a second" % (number + 1, by_hol_light()), flush=True)
+            rate = by_hol_light()
+            beside = max(beside, rate)
+            print("round %d, HOL Light's toplevel, small goals: %.0f steps a second" % (number, rate), flush=True)
+    if given.four:
+        alone, four = side_by_side(given.program, 1), side_by_side(given.program, 4)
+        print("by the clock: one process %.0f steps a second, four %.0f: %.1f times" % (alone, four, four / alone), flush=True)
+    is_enough = all(rate >= LEAST for (_, way), rate in best.items() if way != "one by one")
+    return 0 if is_enough and best[None, "together"] >= TIMES * beside else 1
 
 
 if __name__ == "__main__":
-    main()
+    sys.exit(main())

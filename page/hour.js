@@ -1,5 +1,5 @@
-// The first hour: a lesson's words, its hints step by step, and whether what it wants was made.
-import { LESSONS, given } from './lessons.js';
+// The hours of lessons: a lesson's words, its hints step by step, and whether what it wants was made.
+import { LESSONS, SECOND_BEGINS, given } from './lessons.js';
 import { element } from './element.js';
 
 const PREFIX = 'Lesson';
@@ -46,7 +46,11 @@ export class Hour {
       element('h2', {}, 'A first hour'),
       element('p', {}, 'Ten lessons, from x = x to a definition and an induction. Each has a goal to prove, and is ticked off when the '
         + 'prover has accepted it.'),
-      element('ol', { className: 'lessons' }, ...items),
+      element('ol', { className: 'lessons' }, ...items.slice(0, SECOND_BEGINS)),
+      element('h2', {}, 'A second hour'),
+      element('p', {}, 'From definitions to a compiler that is proved correct: numbers, lists, types and relations of your own. An exercise has hints, and no '
+        + 'answer to put in.'),
+      element('ol', { className: 'lessons', start: SECOND_BEGINS + 1 }, ...items.slice(SECOND_BEGINS)),
     ];
   }
 
@@ -72,8 +76,8 @@ export class Hour {
   hintParts() {
     const { hints } = LESSONS[this.number];
     const shown = hints.slice(0, this.hints).map(({ say, code }) => element('li', {},
-      element('p', { innerHTML: say }), element('pre', {}, code),
-      element('button', { onclick: () => this.put(code) }, 'Put it at the cursor')));
+      element('p', { innerHTML: say }), ...(code ? [element('pre', {}, code),
+        element('button', { onclick: () => this.put(code) }, 'Put it at the cursor')] : [])));
     const list = element('ol', { className: 'hints', 'aria-label': 'Hints', 'aria-live': 'polite' }, ...shown);
     if (this.hints === hints.length) return [list];
     const words = `${this.hints ? 'Next hint' : 'Show a hint'} (${this.hints + 1} of ${hints.length})`;

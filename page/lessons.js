@@ -1,7 +1,9 @@
-// The first hour: ten lessons. Of each: what it says, the parts of the text that it begins with, what has to be made in the end (as reports
-// show it; and `inNotation` as it is shown, where the lesson declares notation), and hints, each with the commands that it gives away.
+import { SECOND } from './second_hour.js';
 
-export const LESSONS = [
+// The lessons: ten of the first hour, and those of the second. Of each: what it says, the parts of the text that it begins with, what has to be made in the end (as reports
+// show it; and `inNotation` what is shown of that, in notation), and hints, each with the commands that it gives away, of an exercise none.
+
+const FIRST = [
   {
     title: 'Both sides are the same',
     say: [
@@ -248,11 +250,14 @@ export const LESSONS = [
   },
 ];
 
+export const LESSONS = [...FIRST, ...SECOND];
+export const SECOND_BEGINS = FIRST.length;
+
 // The text that a lesson begins with: its parts, with a line free between two.
 export const given = ({ given: parts }) => parts.join('\n');
 
-// A solution: behind each part the commands of its hints, which are those of the last part unless they name another one.
+// A solution: behind each part the commands of its hints, which are those of the last part unless they name another one. Of an exercise, what it begins with.
 export function solved({ given: parts, hints }) {
-  const codes = (at) => hints.filter(({ part = parts.length - 1 }) => part === at).map(({ code }) => code).join('');
+  const codes = (at) => hints.filter(({ part = parts.length - 1 }) => part === at).map(({ code = '' }) => code).join('');
   return parts.map((part, at) => part + codes(at)).join('\n');
 }

@@ -3,7 +3,7 @@
 
     python3 release/make.py PROGRAM --commit REF     writes hol_serve.xz and about.json beside this script
     python3 release/make.py --check [PROGRAM]        the packed program is the one that about.json names; with PROGRAM, where the sources
-                                                     are those of the release's commit, it is this program byte for byte
+                                                     and the toolchain are the release's, it is this program byte for byte
 
 PROGRAM has to be the proved one, crates/hol_serve/out/hol_serve as .ci/run leaves it; REF is the commit that it was built from. CHANGELOG.md beside this
 script has to have a heading with the commit's first eight characters: what is new for users. The toolchain's name is asked from `rt version`.
@@ -14,6 +14,7 @@ import hashlib
 import json
 import lzma
 import pathlib
+import shutil
 import subprocess
 import sys
 
@@ -37,8 +38,10 @@ def answers(program):
     return ran.returncode == 0 and ran.stdout.endswith(LAST_REPLIES)
 
 
-def faults_of_sources(commit):
-    """Where the program can't be of the commit: sources that have changed since."""
+def faults_of_sources(commit, kit):
+    """Why a program that was built here can't be compared: sources that have changed since the commit, or another toolchain."""
+    if not shutil.which("rt") or said_by("rt", "version") != kit:
+        return f"the toolchain here isn't {kit}"
     if subprocess.run(["git", "cat-file", "-e", commit + "^{commit}"], cwd=ROOT, capture_output=True).returncode:
         return "this clone doesn't have the commit"
     changed = subprocess.run(["git", "diff", "--quiet", commit, "--", *SOURCES], cwd=ROOT).returncode
@@ -67,7 +70,7 @@ def checks(program):
     has_changes = about["commit"][:SHOWN] in CHANGES.read_text(encoding="utf-8")
     yield "the changes", None if has_changes else f"{CHANGES.name} has no heading with {about['commit'][:SHOWN]}"
     if program:
-        other = faults_of_sources(about["commit"])
+        other = faults_of_sources(about["commit"], about["kit"])
         if other:
             print(f"release: {program} isn't compared: {other}")
         else:

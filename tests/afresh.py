@@ -54,7 +54,7 @@ MATCHED = [
     "a type variable takes a type", "a type variable is fixed", "a type variable stays",
 ]  # fmt: skip
 CASES = [
-    *("6: an unknown name", "6: a function without arguments", "6: a function with other arguments", "6: a function that gets a theorem"),
+    *("6: an unknown name", "6: the name that the command gives", "6: a function without arguments", "6: a function with other arguments", "6: a function that gets a theorem"),
     *("6: a named expression with other arguments", "6: a named expression that gets a theorem"),
     *(f"10: a {kind} that is {stands}" for kind in ("type", "const", "thm", "tac") for stands in ("made", "built in")),
     *("13: a reading", "13: a theorem", "13: a named expression", "13: a run", "13: a run inside a named expression", "18: a run", "18: a run inside a named expression"),

@@ -3,7 +3,7 @@ just at a limit. Each list ends by itself, with one reply a line, of the form or
 of processor time but those whose turns say so, and no list over 256 MB. The deepest terms, types, expressions, justifications and histories are served
 with 6 of the 8 MB of stack that Linux gives a program, and answered as with all of it.
 
-With `--depth` it measures how much stack each takes, in kilobytes, and whether 1 MB is enough: the table of docs/GATE.md."""
+With `--depth` it measures how much stack each takes, in kilobytes, and whether 1 MB is enough."""
 
 import argparse
 import itertools

@@ -2,8 +2,8 @@
 """Checks the pages, and makes what they say of the definitions from these.
 
     python3 tests/pages.py            checks; the last line is 'pages: N passed, M failed'
-    python3 tests/pages.py --write    writes the lists of definitions to out/DEFINITIONS.md, the counts of README.md, and the lines of docs/GATE.md, and then
-                                      checks
+    python3 tests/pages.py --write    writes the lists of definitions to out/DEFINITIONS.md, each public call's contract to out/CONTRACTS.md, the lines by
+                                      crate to out/LINES.md, and the counts of README.md, and then checks
 
 The definitions that have to be believed are those that the contracts of some functions name, and what these name, and so on (tests/antt.py). They
 stand in three tiers, each without what stands in those before. tests/definitions.txt has sentences for files and definitions; where it has none,
@@ -19,6 +19,7 @@ import sys
 import tempfile
 
 import antt
+import contracts
 
 ROOT = pathlib.Path(__file__).resolve().parent.parent
 sys.path.insert(0, str(ROOT / "bench"))
@@ -26,18 +27,20 @@ import lines as counting  # noqa: E402 (bench/lines.py)
 
 CRATES = ROOT / "crates"
 SENTENCES = ROOT / "tests" / "definitions.txt"
-PAGE = ROOT / "docs" / "DEFINITIONS.md"
 LISTS = ROOT / "out" / "DEFINITIONS.md"
+LINES = ROOT / "out" / "LINES.md"
+CALLS = ROOT / "out" / "CONTRACTS.md"
+CONTRACTS = ROOT / "docs" / "CONTRACTS.md"
 GATE = ROOT / "docs" / "GATE.md"
 README = ROOT / "README.md"
 WIDTH = 120
 LONGEST_LINE = 160
 LARGEST_README = 6_144
+LARGEST_PAGES = 280 * 1024  # Of docs/ and all READMEs together.
 # Where README says how many definitions have to be read, for the first tier and for all.
 COUNTS = re.compile(r"(read )[\d,]+( definitions \()[\d,]+( lines\) .*?;\s+for\s+all\s+.*?)[\d,]+( \()[\d,]+( lines\))", re.S)
 # Where README says how many places make a theorem, in all and in hol_kernel.
 MAKERS = re.compile(r"(theorems are made in )\d+( places,\s+)\d+(\s+of\s+them\s+in\s+hol_kernel)")
-BEGIN, END = "<!-- Made by tests/pages.py --write, from here -->", "<!-- to here. -->"
 
 
 @dataclasses.dataclass(frozen=True)
@@ -307,15 +310,6 @@ class Definitions:
         return [f"{n:,}" for found in (self.counted(0), self.all) for n in self.counts(found)[:2]]
 
 
-def with_lists(text, lines):
-    """A page with these lines between its two marks."""
-    before, begin, rest = text.partition(BEGIN)
-    _, end, after = rest.partition(END)
-    if not begin or not end:
-        raise antt.Unread("a page lacks its marks")
-    return f"{before}{BEGIN}\n\n" + "\n".join(squeezed(lines)) + f"\n\n{END}{after}"
-
-
 def with_title(lines):
     """The page of the lists."""
     return "# The definitions, by tiers\n\nMade by tests/pages.py; [what they are](../docs/DEFINITIONS.md).\n\n" + "\n".join(lines) + "\n"
@@ -422,6 +416,27 @@ def stale_quotes(page, text):
                     break
 
 
+def missing_edits(text):
+    """Wrong bodies that docs/GATE.md names in its table, by crate, and that aren't there."""
+    rows = re.findall(r"^\| (hol_\w+) \| (`.*`) \|$", text, re.M)
+    if not rows:
+        yield "it has no table of wrong bodies"
+    for crate, names in rows:
+        for name in re.findall(r"`(\w+)`", names):
+            if not (CRATES / crate / "must-fail" / f"{name}.edit").is_file():
+                yield f"{crate} has no wrong body {name}"
+
+
+def unknown_words(text):
+    """Names of calls, laws, definitions and tests on docs/CONTRACTS.md that neither a crate nor a test has; `mk_` stands for all names that begin so."""
+    sources = [path for folder in ("src", "specs") for path in CRATES.glob(f"*/{folder}/**/*") if path.suffix in (".rt", ".antt")]
+    sources += (ROOT / "tests").glob("*.py")
+    known = set(re.findall(r"\w+", " ".join(path.read_text(encoding="utf-8") for path in sources)))
+    for name in sorted(set(re.findall(r"`([A-Za-z_][\w:]*)`", text))):
+        if not name.endswith("_") and not set(re.findall(r"\w+", name)) <= known:
+            yield f"nothing has the name {name}"
+
+
 # What the reader has to tell apart: a file of definitions, and what each of them names. Another file, `Other.antt`, has `a`, `b` and `data c`, whose
 # case is `d`, and `data e`, whose case is `b2`.
 READER = (
@@ -467,30 +482,27 @@ def check(name, faults):
 def definitions_checks(write):
     """The checks of the lists and the counts, after these are written, if they are to be."""
     made = Definitions()
-    pages = {
-        README: with_makers(with_counts(README.read_text(encoding="utf-8"), made.numbers())),
-        GATE: with_lists(GATE.read_text(encoding="utf-8"), counting.table()),
-    }
+    readme = with_makers(with_counts(README.read_text(encoding="utf-8"), made.numbers()))
     yield check("sentences", made.faults())
     lists = with_title(squeezed(made.page()))
     yield check(str(LISTS.relative_to(ROOT)), broken_links(LISTS, lists))
     if write:
         LISTS.parent.mkdir(exist_ok=True)
         LISTS.write_text(lists, encoding="utf-8")
-    for page, text in pages.items():
-        if write:
-            page.write_text(text, encoding="utf-8")
-        stale = [] if text == page.read_text(encoding="utf-8") else ["it isn't what the files make it: python3 tests/pages.py --write"]
-        yield check(str(page.relative_to(ROOT)), stale)
+        LINES.write_text("\n".join(["# Lines by crate", "", *counting.table()]) + "\n", encoding="utf-8")
+        CALLS.write_text(contracts.page(CRATES, made.crates), encoding="utf-8")
+        README.write_text(readme, encoding="utf-8")
+    stale = [] if readme == README.read_text(encoding="utf-8") else ["it isn't what the files make it: python3 tests/pages.py --write"]
+    yield check("README.md, counts", stale)
     yield check("wrong bodies", counting.misfits())
 
 
 def kit_faults():
     """Where the README names another toolchain than the one that is here; there may be none."""
     if shutil.which("rt"):
-        kit = subprocess.run(["rt", "version"], capture_output=True, text=True, check=True).stdout.strip()
+        kit, logic = subprocess.run(["rt", "version"], capture_output=True, text=True, check=True).stdout.strip().split(maxsplit=1)
         text = README.read_text(encoding="utf-8")
-        for name in (kit, kit.split()[0]):
+        for name in (kit, logic):
             if f"`{name}`" not in text:
                 yield f"the toolchain is `{name}`, which isn't the one that README.md names"
 
@@ -501,11 +513,15 @@ def page_checks():
         text = page.read_text(encoding="utf-8")
         for name, faults in (("lines", long_lines), ("links", broken_links), ("paths", missing_paths), ("quotes", stale_quotes)):
             yield check(f"{page.relative_to(ROOT)}, {name}", faults(page, text))
+    yield check("docs/GATE.md, wrong bodies", missing_edits(GATE.read_text(encoding="utf-8")))
+    yield check("docs/CONTRACTS.md, names", unknown_words(CONTRACTS.read_text(encoding="utf-8")))
     size = README.stat().st_size
     yield check("README.md, toolchain", kit_faults())
     unsafe = {crate: found for crate, code in codes().items() if (found := len(re.findall(r"\bunsafe\b", code)))}
     yield check("README.md, the one `unsafe`", [] if unsafe == {"hol_mark": 1} else [f"the word stands in {unsafe}"])
     yield check("README.md, size", [f"{size} bytes, and at most {LARGEST_README}"] if size > LARGEST_README else [])
+    whole = sum(page.stat().st_size for page in pages if page.name == "README.md" or page.parent.name == "docs")
+    yield check("docs/ and READMEs, size", [f"{whole} bytes, and at most {LARGEST_PAGES}"] if whole > LARGEST_PAGES else [])
 
 
 def main():

@@ -1,7 +1,7 @@
 #!/usr/bin/env python3
 """Proves a tree by `rt ci`, with its checks put side by side by another rule, and tries the wrong bodies of this tree over the libraries as they come.
 
-    python3 tests/prove.py TREE
+    python3 tests/prove.py TREE [--minutes FILE]
 
 TREE is a copy of this tree without crates/*/must-fail, in which `rt ci` can run. What it checks there, and what counts as passed, is the toolchain's own:
 this loads the command `rt` and has it run its `ci` as it stands, but for two things that decide no verdict.
@@ -13,10 +13,13 @@ this loads the command `rt` and has it run its `ci` as it stands, but for two th
 - The sum of what a crate is made from, which `rt ci` makes anew along each path to a crate below it, 104,000 for the highest, and then doesn't use:
   it is made once.
 
-The wrong bodies are tried by tests/wrong_bodies.py, where nothing else is ready. Where the toolchain's `rt` isn't as this knows it, `rt ci` itself is
-run, and then they are. Status 0 where all passed."""
+That they decide none is tested in each run, and told in its line `judge`: each task of `rt ci` was run once, after all that it waits for, and `rt ci` judges by what its own tasks
+gave; and at the end each sum is made again from those of the crates below. tests/judge.py compares with an unchanged `rt ci` over a small tree.
 
-import functools
+The wrong bodies are tried by tests/wrong_bodies.py, where nothing else is ready. Where the toolchain's `rt` isn't as this knows it, `rt ci` itself is
+run, and then they are. FILE gets the processor seconds by crate, as tests/minutes.py reads them. Status 0 where all passed."""
+
+import argparse
 import importlib.machinery
 import importlib.util
 import inspect
@@ -28,6 +31,7 @@ import sys
 import time
 from concurrent.futures import FIRST_COMPLETED, ThreadPoolExecutor, wait
 
+import minutes
 import wrong_bodies
 
 # A check by more processes gains little.
@@ -115,6 +119,46 @@ def run(tasks, room):
     return given
 
 
+class Judge:
+    """What `rt ci` hands over, watched: its tasks, and the sums of what crates are made from."""
+
+    def __init__(self, make_sum):
+        self.make_sum, self.sums, self.begun, self.tasks, self.faults = make_sum, {}, [], {}, []
+
+    def sum_of(self, crate):
+        """The sum, which is made once for each value that stands for a crate."""
+        if crate not in self.sums:
+            self.sums[crate] = self.make_sum(crate)
+        return self.sums[crate]
+
+    def watched(self, key, task):
+        """The task, which tells when it is begun, and what it lacks then."""
+        waits, lines, needs, call = task
+
+        def begin(given, jobs):
+            self.begun.append(key)
+            self.faults += [f"{' '.join(key)} was begun before {' '.join(below)} had ended" for below in waits if below not in given]
+            return call(given, jobs)
+
+        return waits, lines, needs, begin
+
+    def in_lanes(self, tasks, others, room):
+        """Runs the tasks of `rt ci`, and others beside them, and answers what its own gave."""
+        self.tasks = tasks
+        given = run({**{key: self.watched(key, task) for key, task in tasks.items()}, **others}, room)
+        return {key: given[key] for key in tasks}
+
+    def ends(self):
+        """Says what was seen, and answers whether nothing is amiss. Each sum is made from the files and the sums of the crates below, so if each that is made again is the one that
+        was kept, all are those that `rt ci` makes without keeping any."""
+        again = [f"the sum of {crate.name} is another one now" for crate, kept in [*self.sums.items()] if self.make_sum(crate) != kept]
+        once = [] if sorted(self.begun) == sorted(self.tasks) else ["a task of `rt ci` wasn't run once"]
+        faults = self.faults + again + once
+        print("\n".join([*(f"FAILED {fault}" for fault in faults),
+                         f"judge: {len(self.tasks)} tasks of rt ci, each run once, after those that it waits for; {len(self.sums)} sums made again; {len(faults)} faults"]), flush=True)
+        return not faults
+
+
 def told(key, jobs, seconds):
     if key[1] in ("proof", "tests"):
         print(f"{' '.join(key)}: {seconds / 60:.1f} minutes by {jobs} process{'es' * (jobs > 1)}", flush=True)
@@ -139,16 +183,27 @@ def prove(tree, trial):
         status = subprocess.run(["rt", "ci"], cwd=tree).returncode
         trial.run(batches, jobs or min(os.cpu_count() or 1, 4))
         return status
-    rt.in_lanes = lambda tasks: run({**tasks, **tries(trial, batches)}, Room(rt.processors(), 0.85 * rt.free(), jobs))
-    rt.rtlib.Crate.stamp = functools.lru_cache(None)(rt.rtlib.Crate.stamp)
+    judge = Judge(rt.rtlib.Crate.stamp)
+    rt.in_lanes = lambda tasks: judge.in_lanes(tasks, tries(trial, batches), Room(rt.processors(), 0.85 * rt.free(), jobs))
+    rt.rtlib.Crate.stamp = lambda crate: judge.sum_of(crate)
     os.chdir(tree)
-    return rt.main(["ci"])
+    status = rt.main(["ci"])
+    return status if judge.ends() else 1
 
 
 def main():
-    tree = pathlib.Path(sys.argv[1]).resolve()
+    words = argparse.ArgumentParser(description="Proves a tree by `rt ci`, and tries the wrong bodies of this one.")
+    words.add_argument("tree", type=pathlib.Path, metavar="TREE", help="a copy of this tree without crates/*/must-fail")
+    words.add_argument("--minutes", type=pathlib.Path, metavar="FILE", help="what gets the processor seconds of each crate")
+    words = words.parse_args()
+    tree = words.tree.resolve()
+    file = words.minutes.resolve() if words.minutes else None
     trial = wrong_bodies.Trial(wrong_bodies.Crates(tree))
-    status = prove(tree, trial)
+    with minutes.Watch() as watch:
+        status = prove(tree, trial)
+    if file:
+        with file.open("a") as told:
+            told.writelines(watch.lines())
     print(f"edits: {trial.passed} passed, {trial.failed} failed", flush=True)
     return 1 if trial.failed else status
 

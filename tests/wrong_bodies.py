@@ -14,8 +14,13 @@ With '?' for GOAL an edit still waits for a check that tells it: it is tried whe
 
 How an edit is tried: on a copy of its crate in which every function that no edit changes has the body `unreachable!()` and a proof left open, so that
 the edited function is checked against what the others promise, as a crate above is checked against the libraries below it. That the others keep
-their promises is what `rt ci` has shown. Edits of different functions are tried in one check. `--unedited` tries the same functions as they stand,
-and each must be proved: it shows that a refusal comes from its edit.
+their promises is what `rt ci` has shown. Edits are tried in one check: of those of one function each but the first changes a copy of it, that stands
+beside it under a name of its own, with a copy of its proof. `--unedited` tries the same functions and copies as they stand, and each must be proved: it shows
+that a refusal comes from its edit.
+
+A check that leaves goals open goes on to print the files that would answer them, for a fifth of its time, but not where a proof file has a line that is wrong.
+So the edited functions' files get one (`WRONG`), and the goals are taken from the check's notes. What isn't refused so by its goal is tried once more without
+that line, and only that decides. `--unedited` tries each both ways: with the line no goal may be left either.
 
 Needs `rt` on the PATH, and calls the kit's `rattle` by flags that `rt check --help` lists. Status 0 where each edit was refused by its goal."""
 
@@ -36,13 +41,20 @@ import time
 ROOT = pathlib.Path(__file__).resolve().parent.parent
 PARTS = ("src", "specs", "proofs")
 PROOF_FILES = ("Answers.antt", "Invariants.antt")
-# The body and the proof of a function that no edit of a check changes. Its proof is left open, so that what it promises is taken as it is stated.
+# The body and the proof of a function that no edit of a check changes. Its proof is left open, so that what it promises is taken as it is stated. (The hole
+# stands in a lemma that says nothing, since a check writes out what each hole has to show: that took a tenth of its time.)
 OPEN_BODY = "unreachable!()"
 OPEN_PROOF = """use Rattle.{crate}.proofs.{path}.Statement.{{statement}}
 
+left_open : {{A : Type 2}} → A
+left_open = ?
+
 pub {name}_spec : {{M : Type 1}} → statement M
-{name}_spec = ?
+{name}_spec = left_open
 """
+# A lemma that no check admits. No function's proof has a name with a dash.
+WRONG_NAME = "offers-nothing"
+WRONG = f"\n\n{WRONG_NAME} : Type 0\n{WRONG_NAME} = Type 0\n"
 
 
 class Unusable(Exception):
@@ -199,6 +211,34 @@ class Edit:
         return texts
 
 
+def above(lines, first):
+    """The first line of a function's attributes, or its own where it has none."""
+    while first and lines[first - 1].strip().startswith("#["):
+        first -= 1
+    return first
+
+
+class Copy:
+    """A copy of a function under a name of its own."""
+
+    def __init__(self, function, number, lines):
+        *self.module, self.of = function.path.split("::")
+        self.function, self.name = function, f"{self.of}_edit_{number}"
+        self.path = "::".join([*self.module, self.name])
+        first = above(lines, function.first)
+        header = re.sub(rf"\bfn {self.of}\b", f"fn {self.name}", lines[function.first])
+        self.lines = [*lines[first : function.first], header, *lines[function.first + 1 : function.closed + 1]]
+
+    def write_proof(self, crate, proofs):
+        """Copies the proof files of the function, where it has any. They name it by its path."""
+        own, new = proofs.joinpath(*self.module, self.of), proofs.joinpath(*self.module, self.name)
+        path = ".".join([f"Rattle.{crate}.proofs", *self.module])
+        if own.is_dir():
+            shutil.copytree(own, new)
+            for file in new.rglob("*.antt"):
+                file.write_text(re.sub(rf"\b{re.escape(path)}\.{self.of}(?=\.)", f"{path}.{self.name}", file.read_text()))
+
+
 class Sources:
     """A crate's source files, its functions, and which of these call one another."""
 
@@ -212,17 +252,45 @@ class Sources:
         lines = {file: (self.texts[file].split("\n"), text.split("\n")) for file, text in texts.items()}
         return {it.path for it in self.functions if lines[it.file][0][it.first : it.closed] != lines[it.file][1][it.first : it.closed]}
 
+    def lines_of(self, edit):
+        """The lines that an edit changes, by their files and numbers. It adds none and takes none away, since each text of it is one line."""
+        pairs = ((file, text.split("\n"), self.texts[file].split("\n")) for file, text in edit.applied(self.texts).items())
+        return {(file, at): line for file, lines, was in pairs for at, line in enumerate(lines) if line != was[at]}
+
+    def together(self, edits):
+        """The crate's texts with all these edits in them, or None where two change one line."""
+        changes = [self.lines_of(it) for it in edits]
+        lines = {file: text.split("\n") for file, text in self.texts.items()}
+        for (file, at), line in [change for it in changes for change in it.items()]:
+            lines[file][at] = line
+        return {file: "\n".join(it) for file, it in lines.items()} if len(set().union(*changes)) == sum(map(len, changes)) else None
+
     def with_cycles(self, paths):
         """These functions and those that call them and are called by them."""
         return set(paths).union(*(cycle for cycle in self.cycles if cycle & set(paths)))
 
-    def write(self, folder, texts, closed):
-        """Writes a copy of the crate with these texts, in which the functions that aren't `closed` are left open."""
+    def copied(self, edit, number, texts):
+        """The function of an edit as it stands in these texts, under another name, or None where it isn't all that the edit changes, or can't be copied."""
+        function = next(it for it in self.functions if it.path == edit.function)
+        edited = edit.applied(self.texts)
+        here, was = edited[function.file].split("\n"), self.texts[function.file].split("\n")
+        outside = [(text, self.texts[file]) for file, text in edited.items() if file != function.file]
+        outside += [(here[: function.first], was[: function.first]), (here[function.closed :], was[function.closed :])]
+        if not function.is_own or self.with_cycles({edit.function}) != {edit.function} or any(one != other for one, other in outside):
+            return None
+        return Copy(function, number, texts[function.file].split("\n"))
+
+    def write(self, folder, texts, closed, copies=()):
+        """Writes a copy of the crate with these texts, in which the functions that aren't `closed` are left open, and the copies of functions."""
         for part in PARTS:
             if (self.folder / part).is_dir():
                 shutil.copytree(self.folder / part, folder / part)
         lines = {file: text.split("\n") for file, text in texts.items()}
         for it in reversed(self.functions):
+            for copy in copies:
+                if copy.function.path == it.path:
+                    lines[it.file][it.closed + 1 : it.closed + 1] = ["", *copy.lines]
+                    copy.write_proof(self.name, folder / "proofs")
             if it.is_own and it.path not in closed:
                 indent = " " * (len(lines[it.file][it.closed]) - 1)
                 lines[it.file][it.opened + 1 : it.closed] = [f"{indent}    {OPEN_BODY}"]
@@ -243,11 +311,9 @@ class Sources:
 
 def drop_cycle_name(lines, first):
     """Takes the name of a cycle of calls off a function that calls nothing."""
-    at = first - 1
-    while at >= 0 and lines[at].strip().startswith("#["):
+    for at in range(above(lines, first), first):
         if lines[at].strip().startswith("#[cycle("):
             lines[at] = ""
-        at -= 1
 
 
 # ------------------------------------------------------------------------------------------------------------------------------ the tries
@@ -258,8 +324,19 @@ GONE = re.compile(r"has no field|has no `|is not in scope|is no name")
 BY_NAME = "only since its answer names what is gone"
 
 
-def goals_left(function, cycle, said):
-    """The goals that a check left open of a function: none where it is proved, None where the check says nothing of them."""
+# What it says of a goal that is left open: where in the sources, and the goal's name.
+NOTE = re.compile(r"(?m)^note: (?:\./)?(\S+?):(\d+):\d+: it is not proved that .*?\(`([^`]+)`\)")
+
+
+def goals_noted(place, said):
+    """The goals that the check's notes call open at the lines of a function."""
+    found = ((file, int(line) - 1, goal) for file, line, goal in NOTE.findall(said))
+    return [goal for file, line, goal in found if place and file == place.file and place.first <= line <= place.closed]
+
+
+def goals_left(function, cycle, said, place=None):
+    """The goals that a check left open of a function: none where it is proved, None where the check says nothing of them. `place` is where it stands, if the
+    check's notes are to be read too."""
     line = next((it for it in said.split("\n") if re.match(rf"fn \w+::{re.escape(function)}: ", it)), "")
     state = line.partition(": ")[2]
     if re.match(r"(proved|no holes|depends on a hole)", state):
@@ -270,31 +347,61 @@ def goals_left(function, cycle, said):
     told = re.findall(rf"(?m)^(?:\./)?proofs/(?:{own})/Answers\.antt:\d+:\d+: error: `([^`]+)`(.*(?:\n  \S.*)*)$", said)
     found = [f"{goal} ({BY_NAME})" if GONE.search(why) else goal for goal, why in told]
     found += re.findall(r"`([^`]+)`", state.partition("did not prove")[2].partition(";")[0])
-    return list(dict.fromkeys(found)) or None
+    return [it for it in dict.fromkeys([*found, *goals_noted(place, said)]) if it != WRONG_NAME] or None
 
 
 class Check:
-    """One check of a crate with some of its edits."""
+    """One check of a crate with some of its edits. A brief one prints no files that would answer the goals that it leaves open."""
 
-    def __init__(self, crates, sources, edits, unedited):
-        self.edits, self.said, self.seconds = edits, "", 0.0
-        texts = sources.texts
-        for edit in edits:
-            texts = edit.applied(texts)
-        functions = {edit.function for edit in edits}
-        closed = sources.with_cycles(functions | sources.changed(texts))
+    def __init__(self, crates, sources, edits, unedited, is_brief):
+        self.edits, self.crates, self.sources, self.is_brief = edits, crates, sources, is_brief
+        self.paths, self.said, self.seconds = {}, "", 0.0
         with tempfile.TemporaryDirectory(prefix="rt-edit-") as room:
-            sources.write(pathlib.Path(room), sources.texts if unedited else texts, closed)
-            begun = time.time()
-            ran = subprocess.run(crates.command(sources.name, sorted(functions)), cwd=room, stdin=subprocess.DEVNULL, stdout=subprocess.PIPE,
-                                 stderr=subprocess.STDOUT, encoding="utf-8", errors="replace")
-            self.seconds = time.time() - begun
-        self.said = ran.stdout
-        self.ended = re.search(r"(?m)^only=\d+ holes=\d+$", ran.stdout) is not None
-        self.goals = {}
-        for edit in edits:
-            cycle = set().union(*(it for it in sources.cycles if edit.function in it))
-            self.goals[edit] = goals_left(edit.function, cycle, ran.stdout) if self.ended else None
+            places = self.write(pathlib.Path(room), unedited)
+            self.run(room)
+        self.ended = re.search(r"(?m)^only=\d+ holes=\d+$", self.said) is not None
+        self.goals = {it: self.goals_of(it, places.get(path) if is_brief else None) if self.ended else None for it, path in self.paths.items()}
+
+    def write(self, room, unedited):
+        """Writes what is checked, and returns where each function stands in it."""
+        first, plain = firsts(self.edits), self.sources.texts
+        copies = {it: self.sources.copied(it, number, plain if unedited else it.applied(plain)) for number, it in enumerate(self.edits) if it not in first}
+        self.paths = {it: copies[it].path if it in copies else it.function for it in self.edits}
+        texts = self.sources.together(first)
+        closed = self.sources.with_cycles({it.function for it in first} | self.sources.changed(texts))
+        self.sources.write(room, plain if unedited else texts, closed, copies.values())
+        lines = {str(it.relative_to(room)): it.read_text().split("\n") for it in (room / "src").rglob("*.rt")}
+        places = {it.path: it._replace(first=above(lines[it.file], it.first)) for it in functions_of(room)}
+        for path in self.paths.values() if self.is_brief else ():
+            self.write_wrong(room / "proofs", places[path], lines[places[path].file])
+        return places
+
+    def write_wrong(self, proofs, place, lines):
+        """Puts the wrong line into the proof of a function, or of the cycle of calls that it is of. Not where that is written by hand as a whole; nor where there
+        is none, and a call of its own name may make it a cycle, whose proof would stand elsewhere."""
+        *module, name = place.path.split("::")
+        cycles = [proofs.joinpath(*module, "+" + it.rpartition("::")[2]) for it in sorted(self.sources.with_cycles({place.path}))]
+        own = next((it for it in cycles if it.is_dir()), proofs.joinpath(*module, name))
+        is_marked = any("#[cycle(" in it for it in lines[place.first : place.opened])
+        may_recur = is_marked or any(re.search(rf"\b{name}\(", it) for it in lines[place.opened + 1 : place.closed])
+        if not (own / "Proof.antt").is_file() and (own.is_dir() or not may_recur):
+            own.mkdir(parents=True, exist_ok=True)
+            with (own / "Answers.antt").open("a") as file:
+                file.write(WRONG)
+
+    def run(self, room):
+        begun = time.time()
+        ran = subprocess.run(self.crates.command(self.sources.name, sorted(self.paths.values())), cwd=room, stdin=subprocess.DEVNULL,
+                             stdout=subprocess.PIPE, stderr=subprocess.STDOUT, encoding="utf-8", errors="replace")
+        self.said, self.seconds = ran.stdout, time.time() - begun
+
+    def goals_of(self, edit, place):
+        cycle = set().union(*(it for it in self.sources.cycles if edit.function in it))
+        return goals_left(self.paths[edit], cycle, self.said, place)
+
+    def is_refused(self, edit):
+        """Whether the edit's own goal is left open."""
+        return edit.goal in (self.goals[edit] or ())
 
     def why(self):
         """The first thing that a check says where it doesn't come to an end, or says nothing of a function."""
@@ -330,9 +437,9 @@ class Trial:
         missing = self.crates.missing(sources.name)
         for edit in edits if missing else []:
             self.say(False, f"{edit.label}: NOT TRIED: there is no library of {', '.join(missing)} in {self.crates.tree}: run `rt ci` there first")
-        left = [] if missing else [edits]
+        left = [] if missing else [(edits, True)]
         while left:
-            left += self.tried(sources, left.pop(0))
+            left += self.tried(sources, *left.pop(0))
 
     def run(self, batches, jobs):
         """Tries such batches, so many side by side."""
@@ -354,20 +461,27 @@ class Trial:
             self.say(False, f"{edit.label}: BAD EDIT: {why}")
         return not why
 
-    def tried(self, sources, edits):
-        """Tries some edits together, says what came of them, and returns what has to be tried again: those that the check doesn't tell, each apart, and
-        those that other goals alone refuse, without the rest, since of functions that call one another a check that stops at one tells less of the others."""
-        check = Check(self.crates, sources, edits, self.unedited)
+    def tried(self, sources, edits, is_brief):
+        """Tries some edits together, says what came of them, and returns what has to be tried again: after a brief check all that it doesn't show to be
+        refused, or, where they are unedited, to have a goal left. After another, those that the check doesn't tell, each apart, and those that other goals
+        alone refuse, without the rest, since of functions that call one another a check that stops at one tells less of the others."""
+        check = Check(self.crates, sources, edits, self.unedited, is_brief)
         if self.verbose:
             self.say(None, check.said.rstrip())
-        untold = [it for it in edits if check.goals[it] is None and len(edits) > 1]
-        others = [it for it in edits if check.goals[it] and it.goal not in [*check.goals[it], "?"] and len(edits) > 1 and not self.unedited]
+        if is_brief:
+            groups = [[it for it in edits if not (check.goals[it] if self.unedited else check.is_refused(it))]]
+            if not check.ended:
+                # (no check is to be lost by a copy)
+                groups = [firsts(edits), [it for it in edits if it not in firsts(edits)]]
+        else:
+            untold = [it for it in edits if check.goals[it] is None and len(edits) > 1]
+            others = [it for it in edits if check.goals[it] and it.goal not in [*check.goals[it], "?"] and len(edits) > 1 and not self.unedited]
+            groups = [*([it] for it in untold), *([others] if 0 < len(others) < len(edits) else [[it] for it in others])]
         for edit in edits:
-            if edit not in untold and edit not in others:
+            if not any(edit in it for it in groups):
                 self.judge(edit, check)
         self.say(None, f"{sources.name}: {check.seconds:.0f} seconds for {len(edits)} edit{'s' * (len(edits) > 1)}")
-        groups = [others] if 0 < len(others) < len(edits) else [[it] for it in others]
-        return [*([it] for it in untold), *groups]
+        return [(it, False) for it in groups if it]
 
     def judge(self, edit, check):
         """Says what came of an edit."""
@@ -385,8 +499,8 @@ class Trial:
 
 
 def batches(sources, edits):
-    """The edits in groups that are tried together: of different functions, and no text in the way of another's. That one calls another is in nobody's way,
-    since each is checked against what the others promise."""
+    """The edits in groups that are tried together: of different functions or of copies of one, and of different lines. That one calls another is in nobody's
+    way, since each is checked against what the others promise."""
     groups = []
     for edit in edits:
         for group in groups:
@@ -399,17 +513,16 @@ def batches(sources, edits):
 
 
 def can_join(sources, group, edit):
-    texts = sources.texts
-    for it in [*group, edit]:
-        texts = it.applied(texts)
-        if texts is None:
-            return False
-    own = sources.with_cycles(sources.changed(edit.applied(sources.texts)) | {edit.function})
-    for it in group:
-        others = sources.changed(it.applied(sources.texts)) | {it.function}
-        if own & others:
-            return False
-    return True
+    if any(it.function == edit.function for it in group):
+        return sources.copied(edit, 2, sources.texts) is not None
+    others = firsts(group)
+    own = sources.changed(edit.applied(sources.texts)) | {edit.function}
+    return sources.together([*others, edit]) is not None and not any(own & (sources.changed(it.applied(sources.texts)) | {it.function}) for it in others)
+
+
+def firsts(edits):
+    """The first edit of each function, which changes it in its place."""
+    return [*{it.function: it for it in reversed(edits)}.values()]
 
 
 def edits_by_crate(names, words=("",), with_waiting=False):

@@ -4,9 +4,10 @@
     python3 theories/index.py    writes it to out/THEORIES.md; status 1 where a file gives none
 
 A part begins with a comment that has a line of its own before and behind it; its first sentence is the part's title. What a file gives and needs is
-the comment at its head."""
+the comment at its head. Before its parts stand the theorems that proofs of the library cite most, MOST at most."""
 
 import argparse
+import collections
 import pathlib
 import re
 import sys
@@ -18,6 +19,7 @@ from holls.text import cut  # noqa: E402 (clients/holls)
 
 PAGE = HERE.parent / "out" / "THEORIES.md"
 WIDTH = 160
+MOST = 20
 DEFINING = {"new_definition": 1, "new_basic_type_definition": 2}
 """Commands beside g that make theorems, and how many."""
 
@@ -37,9 +39,10 @@ class Theory:
         self.head = comments[0][1] if comments and comments[0][0] == 0 else ""
         titles = [(start, sentence(said)) for (start, end), (_, said) in zip(found.comments, comments) if is_title(text, start, end)]
         self.parts = [(title, [p.name for p in self.proofs if start <= p.start < end]) for start, end, title in spans(titles, len(text))]
+        self.cited = collections.Counter(name for command in found.commands if command.word == "e" for name in cited(command.text))
 
-    def lines(self):
-        """Its part of the index."""
+    def lines(self, uses):
+        """Its part of the index, where `uses` says how often each theorem is cited."""
         gives = sentence(re.sub(r" Needs .*", "", self.head))
         needs = f" Imports {', '.join(f'[{name}](../theories/{name}.hol)' for name in self.imports)}." if self.imports else ""
         counts = f"{len(self.proofs)} theorems, {self.definitions} more by definitions, {self.commands} commands."
@@ -47,11 +50,18 @@ class Theory:
         yield ""
         yield from textwrap.wrap(f"{gives}. {counts}{needs}", WIDTH, break_long_words=False, break_on_hyphens=False)
         yield ""
-        for title, names in self.parts:
+        own = [proof.name for proof in self.proofs if uses[proof.name]]
+        most = sorted(own, key=lambda name: -uses[name])[:MOST]
+        for title, names in [("Cited most", most)] + self.parts:
             if names:
                 said = f"- *{title}:* " if title else "- "
                 yield from textwrap.wrap(said + ", ".join(names), WIDTH, subsequent_indent="  ", break_long_words=False, break_on_hyphens=False)
         yield ""
+
+
+def cited(text):
+    """The names in a step's text, outside its quotations."""
+    return re.findall(r"[A-Za-z_][A-Za-z0-9_']*", re.sub(r"`[^`]*`", " ", text))
 
 
 def words(comment):
@@ -97,9 +107,10 @@ def faults(theory):
 def index(theories):
     count = sum(len(theory.proofs) for theory in theories)
     commands = sum(theory.commands for theory in theories)
+    uses = sum((theory.cited for theory in theories), collections.Counter())
     lines = ["# The library's theorems", "", f"{count} theorems are proved in {len(theories)} files of {commands:,} commands.", ""]
     for theory in theories:
-        lines += theory.lines()
+        lines += theory.lines(uses)
     return "\n".join(lines)
 
 

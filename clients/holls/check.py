@@ -3,16 +3,17 @@
 from __future__ import annotations
 
 import argparse
+import gc
 import json
 import os
 import sys
 import time
-from typing import Dict, List, Sequence, Union
+from typing import Callable, Dict, List, Sequence, Union
 
 from holls import checking, disk, farm, files, graph, server, words
 from holls.checking import Basis, Unit
 from holls.files import File
-from holls.findings import Finding, Severity, findings
+from holls.found import Finding, Severity
 from holls.manual import PRELUDE
 from holls.projects import LIBRARY, SUFFIX, Projects
 from holls.protocol import Made
@@ -20,6 +21,8 @@ from holls.say import complain, say
 
 FAILED, BROKEN = 1, 2
 PROGRESS_SECONDS = 0.2
+SELDOM = 50_000, 20, 50
+"""So seldom what is out of use in circles is looked for: nearly all that is made stays until the end."""
 AXIOM = "axiom:"
 
 
@@ -46,9 +49,11 @@ def add_words(parser: argparse.ArgumentParser) -> None:
 
 def main(given: argparse.Namespace) -> int:
     """Checks the files: 0 where all commands are accepted and no proof is open, 1 where not, 2 where nothing can be checked."""
+    gc.set_threshold(*SELDOM)
     try:
-        units = farm.named(given, checking.units(ordered(given.files, given.within)))
         program = server.find(given.server)
+        memory = farm.Memory(given, program)
+        units = farm.named(given, checking.units(ordered(given.files, given.within, memory.outline)))
         if not given.quiet:
             server.say_which(program, given.server)
         limited = farm.words(program, given)
@@ -59,7 +64,6 @@ def main(given: argparse.Namespace) -> int:
         complain(error)
         return BROKEN
     sent = [unit for unit in units if unit.file.is_sent]
-    memory = farm.Memory(given, program)
     memory.recall(sent)
     left = [unit for unit in sent if unit.recalled is None]
     checking.Pool(left, limited, given.seconds, given.axioms or given.no_axioms, given.jobs).start()
@@ -104,15 +108,15 @@ def _wait(unit: Unit, units: Sequence[Unit]) -> None:
         sys.stderr.flush()
 
 
-def ordered(paths: Sequence[str], within: Sequence[str] = ()) -> Dict[str, List[File]]:
+def ordered(paths: Sequence[str], within: Sequence[str] = (), know: Callable[[File], None] = lambda _: None) -> Dict[str, List[File]]:
     """By projects, the files that are named and those that they import, each after those that it imports. With `within` none of them
-    lies outside of these folders."""
+    lies outside of these folders. `know` tells each file what is known of it beforehand."""
     projects = Projects(within)
     named: Dict[str, List[File]] = {}
     for path in _distinct(paths):
         if within and not any(disk.is_within(path, folder) for folder in within):
             raise CannotCheck("%s lies outside of %s, which --within names" % (path, " and ".join(within)))
-        named.setdefault(projects.of(path).key, []).append(read(path))
+        named.setdefault(projects.of(path).key, []).append(_read(path, know))
     for root, own in named.items():
         _one_of_each_name(own)
         project = projects.of(own[0].path)
@@ -124,7 +128,7 @@ def ordered(paths: Sequence[str], within: Sequence[str] = ()) -> Dict[str, List[
             if isinstance(path, list):
                 return project.missing(name)
             try:
-                return read(os.path.relpath(path) if _is_below(path) else path)
+                return _read(os.path.relpath(path) if _is_below(path) else path, know)
             except CannotCheck as error:
                 return str(error)
 
@@ -188,12 +192,26 @@ def _one_of_each_name(own: Sequence[File]) -> None:
             raise CannotCheck("%s and %s are both the theory %s of one project: rename one" % (other, file.path, file.name))
 
 
+def _read(path: str, know: Callable[[File], None]) -> File:
+    """A file on disk, with what is known of it beforehand."""
+    file = read(path)
+    know(file)
+    return file
+
+
 def read(path: str) -> File:
     """A file on disk."""
     try:
         return files.read(path, disk.read(path))
     except disk.CannotRead as error:
         raise CannotCheck("%s %s" % (path, error)) from None
+
+
+def _findings(file: File) -> List[Finding]:
+    """What there is to say of a file that was run."""
+    from holls.findings import findings  # Here alone: what is remembered needs none of it.
+
+    return findings(file)
 
 
 def _is_wrong(finding: Finding) -> bool:
@@ -211,7 +229,7 @@ class _Show:
 
     def unit(self, unit: Unit) -> int:
         """Writes what there is to say of a file. Answers how many errors there are."""
-        said = findings(unit.file) if unit.recalled is None else unit.recalled
+        said = _findings(unit.file) if unit.recalled is None else unit.recalled
         for finding in said:
             kind = "error" if _is_wrong(finding) else finding.severity.name.lower()
             self.finding(unit.file, finding, kind)
@@ -254,7 +272,7 @@ class _Show:
             return
         outcome = _count(wrong, "error") if wrong else "not checked to the end" if has_failed else "all accepted"
         axioms = _made_by(unit, "new_axiom")
-        parts = [_count(len(file.cut.commands), "command"), _count(_made_by(unit, "qed"), "theorem")] + ([_count(axioms, "axiom")] if axioms else [])
+        parts = [_count(file.outline.commands, "command"), _count(_made_by(unit, "qed"), "theorem")] + ([_count(axioms, "axiom")] if axioms else [])
         say("%s: %s, %s" % (file.path, ", ".join(parts), outcome))
 
     def _is_carried(self, file: File) -> bool:
@@ -264,7 +282,7 @@ class _Show:
     def total(self, units: Sequence[Unit], wrong: int) -> None:
         """The last line of all, where there are several files."""
         if len(units) > 1 and not self.is_quiet:
-            parts = [_count(len(units), "file"), _count(sum(len(unit.file.cut.commands) for unit in units), "command"),
+            parts = [_count(len(units), "file"), _count(sum(unit.file.outline.commands for unit in units), "command"),
                      _count(sum(_made_by(unit, "qed") for unit in units), "theorem"), _count(wrong, "error")]
             say("in all: " + ", ".join(parts))
 
@@ -295,7 +313,7 @@ class _JsonShow(_Show):
     def count(self, unit: Unit, wrong: int) -> None:
         """The last line of a file."""
         more = {"failed": True} if unit.failure is not None else {}
-        counts = {"commands": len(unit.file.cut.commands), "theorems": _made_by(unit, "qed"), "axioms": _made_by(unit, "new_axiom"), "errors": wrong}
+        counts = {"commands": unit.file.outline.commands, "theorems": _made_by(unit, "qed"), "axioms": _made_by(unit, "new_axiom"), "errors": wrong}
         print(json.dumps(dict({"file": unit.file.path}, **counts, **more)))
 
     def total(self, units: Sequence[Unit], wrong: int) -> None:

@@ -6,18 +6,23 @@ import os
 import queue
 import threading
 from dataclasses import dataclass, field
-from typing import Callable, Dict, List, Optional, Sequence, Set, Tuple
+from typing import Callable, Dict, List, Optional, Sequence, Set, Tuple, Union
 
 from holls import graph, protocol
 from holls.difference import REMOVE, REPLACE
 from holls.files import File
-from holls.findings import Finding
+from holls.found import Finding
 from holls.protocol import Made
+from holls.server import Ended, Line
 from holls.session import Session
 from holls.sweep import Sweep, is_known
 from holls.theory import DROP
 
 SERVED = frozenset((REPLACE, REMOVE, DROP))
+TOGETHER = 256
+"""So many lines of a program are heard together at most."""
+
+Event = Union[Line, Ended]
 
 
 @dataclass(frozen=True)
@@ -50,11 +55,11 @@ class Unit:
 
     def __post_init__(self) -> None:
         self.files = set(self.imports + [self.file])
-        self._commands = sum(len(file.cut.commands) for file in self.files)
+        self._commands = sum(file.outline.commands for file in self.files)
 
     def cost(self, standing: Set[File]) -> int:
         """How many commands a server has to run in which some files stand already."""
-        return self._commands - sum(len(file.cut.commands) for file in standing if file in self.files)
+        return self._commands - sum(file.outline.commands for file in standing if file in self.files)
 
 
 class Pool:
@@ -97,7 +102,7 @@ class _Worker:
         self.standing: List[File] = []
         self.session: Optional[Session] = None
         self.sweep = Sweep()
-        self.events: "queue.Queue[object]" = queue.Queue()
+        self.events: "queue.SimpleQueue[Event]" = queue.SimpleQueue()
         self.unanswered = 0
 
     def run(self) -> None:
@@ -141,9 +146,16 @@ class _Worker:
     def _wait(self, is_done: Callable[[], bool]) -> None:
         while not self.session.failure and not is_done():
             try:
-                self.session.hear(self.events.get(timeout=self.session.deadline()))
+                self.session.hear(*self._heard(self.events.get(timeout=self.session.deadline())))
             except queue.Empty:
                 self.session.tick()
+
+    def _heard(self, first: Event) -> List[Event]:
+        """An event with those that wait already: they are heard together."""
+        found = [first]
+        while len(found) < TOGETHER and not self.events.empty():
+            found.append(self.events.get_nowait())
+        return found
 
     def _ask_bases(self, unit: Unit, unknown: List[str]) -> None:
         for number, command in enumerate(unit.file.commands):

@@ -6,6 +6,7 @@ from dataclasses import dataclass
 from difflib import SequenceMatcher
 from typing import List, Optional, Sequence
 
+from holls.common import ends
 from holls.protocol import COMMANDS
 
 REPLACE, REMOVE, INSERT = "replace", "remove", "insert"
@@ -40,13 +41,7 @@ class Middle:
 
 def middle(old: Sequence[str], new: Sequence[str]) -> Middle:
     """What is left of two lists without their common beginning and end."""
-    most = min(len(old), len(new))
-    start = 0
-    while start < most and old[start] == new[start]:
-        start += 1
-    end = 0
-    while end < most - start and old[-1 - end] == new[-1 - end]:
-        end += 1
+    start, end = ends(old, new)
     return Middle(start, len(old) - start - end, len(new) - start - end)
 
 

@@ -14,14 +14,14 @@ from typing import Dict, Iterator, List, Sequence
 
 from holls import carried, server
 from holls.checking import Basis, Unit
-from holls.files import File
-from holls.findings import Finding, Severity
+from holls.files import File, Outline
+from holls.found import Finding, Severity
 from holls.limits import limited
 from holls.projects import PROJECT_FILE
 
 VARIABLE = "HOLLS_CACHE"
 """The environment variable that names the folder of what is remembered."""
-FORMAT = 3
+FORMAT = 4
 """What is remembered in another form isn't read."""
 LEAST_MEMORY = 512 << 20
 MEGABYTE = 1 << 20
@@ -59,7 +59,8 @@ def words(program: Sequence[str], given: argparse.Namespace) -> List[str]:
 # What is remembered
 
 class Memory:
-    """A folder with what was found of theories that were accepted, each under what decides it. Without a folder nothing is remembered."""
+    """A folder with what was found of theories that were accepted, each under what decides it, and with their outlines, under their texts: so these
+    aren't cut into commands. Without a folder nothing is remembered."""
 
     def __init__(self, given: argparse.Namespace, program: Sequence[str]) -> None:
         folder = given.cache or os.environ.get(VARIABLE)
@@ -79,14 +80,29 @@ class Memory:
     def _path(self, unit: Unit) -> Path:
         if unit not in self._keys:
             self._keys[unit] = _digest(self._base, *map(self._digest, unit.imports + [unit.file]))
-        key = self._keys[unit]
-        return self._folder / key[:2] / (key + ".json")
+        return self._place(self._keys[unit], ".json")
+
+    def _outline_path(self, file: File) -> Path:
+        return self._place(_digest(self._base, "outline", self._digest(file)), ".outline")
+
+    def _place(self, key: str, suffix: str) -> Path:
+        return self._folder / key[:2] / (key + suffix)
 
     def _digest(self, file: File) -> str:
         """A digest of a file's name and text."""
         if file not in self._digests:
             self._digests[file] = _digest(file.name, file.lines.text)
         return self._digests[file]
+
+    def outline(self, file: File) -> None:
+        """Has a file's outline be known, where it was remembered."""
+        if self._folder is None:
+            return
+        try:
+            known = json.loads(self._outline_path(file).read_text(encoding="utf-8"))
+            file.remember(Outline(tuple(map(str, known["imports"])), int(known["commands"])))
+        except (OSError, ValueError, KeyError, TypeError):
+            pass  # It is cut.
 
     def recall(self, units: Sequence[Unit]) -> None:
         """Has those units done that were accepted before."""
@@ -114,16 +130,21 @@ class Memory:
             return
         bases = [[basis.line, basis.theorem, list(basis.items)] for basis in unit.bases] if self._needs_bases else None
         findings = [[one.start, one.end, int(one.severity), one.text] for one in said]
-        path = self._path(unit)
-        own = path.with_suffix(".%d" % os.getpid())
+        kept = {"theory": unit.file.name, "findings": findings, "bases": bases, "theorems": made["qed"], "axioms": made["new_axiom"]}
         try:
-            path.parent.mkdir(parents=True, exist_ok=True)
-            kept = {"theory": unit.file.name, "findings": findings, "bases": bases, "theorems": made["qed"], "axioms": made["new_axiom"]}
-            own.write_text(json.dumps(kept), encoding="utf-8")
-            os.replace(str(own), str(path))
+            _write(self._path(unit), kept)
+            _write(self._outline_path(unit.file), unit.file.outline._asdict())
         except OSError as error:
             print("holls: warning: nothing can be remembered in %s: %s" % (self._folder, error.strerror or error), file=sys.stderr)
             self._folder = None
+
+
+def _write(path: Path, kept: Dict[str, object]) -> None:
+    """Writes a file whole or not at all, whoever else writes it."""
+    own = path.with_suffix(".%d" % os.getpid())
+    path.parent.mkdir(parents=True, exist_ok=True)
+    own.write_text(json.dumps(kept), encoding="utf-8")
+    os.replace(str(own), str(path))
 
 
 def _is_whole(unit: Unit) -> bool:

@@ -4,14 +4,23 @@ from __future__ import annotations
 
 import os
 from bisect import bisect_right
-from typing import Any, Callable, Dict, List, Mapping, Optional, Sequence, Tuple
+from typing import TYPE_CHECKING, Any, Callable, Dict, List, Mapping, NamedTuple, Optional, Sequence, Set, Tuple
 
 from holls import notation, protocol
 from holls.places import Lines
 from holls.projects import SUFFIX
-from holls.sent import Notation
 from holls.text import Blemish, Command, Cut, cut
 from holls.theory import Entry, Theory
+
+if TYPE_CHECKING:
+    from holls.sent import Notation
+
+
+class Outline(NamedTuple):
+    """What is asked of a text before its commands are: the theories that it imports, and how many commands it has."""
+
+    imports: Tuple[str, ...]
+    commands: int
 
 
 def theory_name(path: str) -> str:
@@ -23,10 +32,11 @@ def theory_name(path: str) -> str:
 class File:
     """A file. Each command has a place in the theory, unless it is too long or one too many, or declares notation.
 
-    What needs its quotations read (`notation`, `theory`, `blemishes`, and what is told by these) is made when it is asked for the first time behind a
-    change: `notation` is what its commands are in notation, by what the files that it imports declare. `blemishes` come from the file alone,
-    `context` from what stands beside it; with `is_shadowed` there is no room for it in the server, or another file is its theory. `imports` are the
-    theories that it imports; those of `refused` are part of a circle, and aren't carried out. `written` is what the module `names` keeps of it, `hints`
+    The text is cut into commands when these are asked for the first time; before that its `outline` can be told by who remembers it. What needs
+    its quotations read (`notation`, `theory`, `blemishes`, and what is told by these) is made when it is asked for the first time behind a change:
+    `notation` is what its commands are in notation, by what the files that it imports declare. `blemishes` come from the file alone,
+    `context` from what stands beside it; with `is_shadowed` there is no room for it in the server, or another file is its theory. Of the theories that it
+    imports those of `refused` are part of a circle, and aren't carried out. `written` is what the module `names` keeps of it, `hints`
     what `findings` does; `undecoded` says where its bytes are no text any more, and `neighbours` gives the paths of its project.
     """
 
@@ -39,7 +49,10 @@ class File:
         self.context: List[Blemish] = []
         self._told: Tuple[List[Blemish], int, Dict[Tuple[int, int], str]] = ([], 0, {})
         self.is_shadowed = False
-        self.imports: Tuple[str, ...] = ()
+        self._cut: Optional[Cut] = None
+        self._before: Tuple[str, Optional[Cut]] = ("", None)
+        self._outline: Optional[Outline] = None
+        self._import_commands: Optional[Dict[str, List[Command]]] = None
         self.refused: Tuple[str, ...] = ()
         self.written: Optional[Tuple[Notation, List[Any]]] = None
         self.hints: Optional[List[Any]] = None
@@ -49,19 +62,51 @@ class File:
         self._imported: Mapping[str, "File"] = {}
         self._read_by: Mapping[str, Notation] = {}
         self._slots: List[Optional[int]] = []
+        self._behind_oops: Set[int] = set()
         self._starts: List[int] = []
+        self.lines = Lines("")
         self.take("")
 
-    def take(self, text: str) -> None:
-        """Takes the file's text."""
-        self.lines = Lines(text)
-        self.cut: Cut = cut(text)
-        self.import_commands: Dict[str, List[Command]] = {}
-        for command in self.cut.commands:
-            if command.word == "import" and command.name:
-                self.import_commands.setdefault(command.name, []).append(command)
-        self.imports = tuple(self.import_commands)
+    def take(self, text: str, lines: Optional[Lines] = None) -> None:
+        """Takes the file's text, and its lines where these are known."""
+        if self._cut is not None:
+            self._before = self.lines.text, self._cut
+        self.lines = lines or Lines(text)
+        self._cut = self._outline = self._import_commands = None
         self._forget()
+
+    @property
+    def cut(self) -> Cut:
+        """The text cut into commands."""
+        if self._cut is None:
+            self._cut = cut(self.lines.text, *self._before)
+        return self._cut
+
+    @property
+    def import_commands(self) -> Dict[str, List[Command]]:
+        """The commands that import, by the theories' names."""
+        if self._import_commands is None:
+            self._import_commands = {}
+            for command in self.cut.commands:
+                if command.word == "import" and command.name:
+                    self._import_commands.setdefault(command.name, []).append(command)
+        return self._import_commands
+
+    @property
+    def outline(self) -> Outline:
+        """What it imports, and how many commands it has."""
+        if self._outline is None:
+            self._outline = Outline(tuple(self.import_commands), len(self.cut.commands))
+        return self._outline
+
+    def remember(self, outline: Outline) -> None:
+        """Takes the outline of its text from who remembers it."""
+        self._outline = outline
+
+    @property
+    def imports(self) -> Tuple[str, ...]:
+        """The theories that it imports."""
+        return self.outline.imports
 
     def know(self, imported: Mapping[str, "File"]) -> None:
         """Takes the files that it imports, by the names of their theories."""
@@ -143,6 +188,8 @@ class File:
 
     def _take_notation(self) -> None:
         """Reads its quotations, where those of the files that it imports are read."""
+        from holls.sent import Notation  # Here alone: a check that remembers all reads no quotation, and needs none of it.
+
         imports = self.carried_out
         self._read_by = {name: one._notation for name, one in self._imported.items() if name in imports and one._notation is not None}
         self._notation = Notation(self.cut.commands, self._read_by)
@@ -160,7 +207,8 @@ class File:
         cut_off = self.undecoded
         self._blemishes = [blemish for blemish in self.cut.blemishes if blemish.is_error or not cut_off] + ([cut_off] if cut_off else [])
         self._check_name()
-        fitting = [not self.is_declaration(number) and self._fits(command) for number, command in enumerate(self.commands)]
+        short, declared = protocol.short(self.name), self.notation.declared
+        fitting = [number not in declared and (len(command.text) < short or self._fits(command)) for number, command in enumerate(self.commands)]
         texts = self._texts(fitting, True)
         if len(texts) > protocol.COMMANDS:
             texts = self._texts(fitting, False)
@@ -193,10 +241,20 @@ class File:
         slot = self.slot(number)
         return None if slot is None else self.theory.entries[slot]
 
+    def entries(self) -> List[Optional[Entry]]:
+        """What is known of each command; None of one that isn't sent."""
+        self._read()
+        own, most = self._theory.entries, protocol.COMMANDS if self.is_sent else 0
+        return [own[slot] if slot is not None and slot < most else None for slot in self._slots]
+
+    def behind_oops(self) -> Set[int]:
+        """The commands before which a hidden `oops` stands, so that no proof is open there."""
+        self._read()
+        return self._behind_oops if self.is_sent else set()
+
     def is_behind_oops(self, number: int) -> bool:
         """Whether a hidden `oops` stands before a command, so that no proof is open there."""
-        slot = self.slot(number)
-        return bool(slot) and self.theory.entries[slot - 1].is_hidden
+        return number in self.behind_oops()
 
     def why_not(self, number: int) -> Optional[str]:
         """Why an import can't be carried out, where what stands beside the file says so: no file of that name, or a circle."""
@@ -234,21 +292,26 @@ class File:
     def _texts(self, fitting: List[bool], with_oops: bool) -> List[Tuple[str, bool]]:
         """What is sent, each with whether it is hidden."""
         texts: List[Tuple[str, bool]] = []
-        self._slots = []
+        self._slots, self._behind_oops = [], set()
         may_be_open = False
-        for command, fits in zip(self.commands, fitting):
-            if fits and command.word in notation.OUTSIDE:
+        for number, (command, fits) in enumerate(zip(self.commands, fitting)):
+            if not fits:
+                self._slots.append(None)
+                continue
+            word, text = command.word, command.text
+            if word in notation.OUTSIDE:
                 is_inside = command.package is not None and not command.is_first  # A package's own proofs end before its next command.
-                texts += [("oops", True)] if may_be_open and with_oops and not is_inside else []
-                may_be_open = command.word == "g"
-            may_be_open = may_be_open and command.text != "oops"
-            self._slots.append(len(texts) if fits else None)
-            texts += [(self._sent(command), False)] if fits else []
+                if may_be_open and with_oops and not is_inside:
+                    texts.append(("oops", True))
+                    if len(texts) < protocol.COMMANDS:
+                        self._behind_oops.add(number)
+                may_be_open = word == "g"
+                if word == "import" and command.name in self.refused:
+                    text = "import " + self.name  # One that isn't to be carried out is one that never is: that of the theory itself.
+            may_be_open = may_be_open and text != "oops"
+            self._slots.append(len(texts))
+            texts.append((text, False))
         return texts
-
-    def _sent(self, command: Command) -> str:
-        """A command's text, and for an import that isn't to be carried out one that never is: that of the theory itself."""
-        return "import " + self.name if command.word == "import" and command.name in self.refused else command.text
 
     def _check_number(self, texts: List[Tuple[str, bool]]) -> None:
         if len(texts) <= protocol.COMMANDS:
@@ -270,10 +333,10 @@ class File:
             "the file's name without %s is the theory's, and `%s` can't be one: it has to be a letter or _, then letters, digits, "
             "_ or ', at most %d, and no reserved word; rename the file" % (SUFFIX, self.name, protocol.NAME_BYTES))))
 
-    def first_line(self, text: str) -> Blemish:
-        """An error that is told of the file as a whole."""
+    def first_line(self, text: str, is_error: bool = True) -> Blemish:
+        """An error, or a warning, that is told of the file as a whole."""
         end = self.lines.starts[1] if len(self.lines.starts) > 1 else len(self.lines.text)
-        return Blemish(0, end, text, True)
+        return Blemish(0, end, text, is_error)
 
 
 def read(path: str, data: bytes) -> File:

@@ -7,45 +7,17 @@ a report above it is missing, or a command isn't sent, only what holds in each c
 from __future__ import annotations
 
 from dataclasses import dataclass
-from enum import IntEnum
 from functools import lru_cache
-from typing import List, Optional, Sequence, Tuple
+from typing import List, Optional, Sequence, Tuple, Union
 
 from holls import declaring, notation, protocol, words
 from holls.files import File
+from holls.found import Finding, Severity
 from holls.meant import Meant
-from holls.protocol import Goals, Lost, Made, Refusal
+from holls.protocol import Goals, Lost, Made, Refusal, Report
 from holls.surface.errors import Misread
 from holls.text import REMEMBERED, Command
 from holls.view import View
-
-
-class Severity(IntEnum):
-    """As the Language Server Protocol numbers them."""
-
-    ERROR = 1
-    WARNING = 2
-    NOTE = 3
-    HINT = 4
-
-
-@dataclass(frozen=True)
-class Finding:
-    """Something to say of a range of the file. `is_open` marks a proof that is never ended.
-
-    `number` is the command that it is about, where it is about one, and `refusal` its refusal, where that is what is told; `undeclared` is an operator, a
-    numeral or a word that no notation here has, and `hiding` a bound variable that has a constant's name, where these are.
-    """
-
-    start: int
-    end: int
-    severity: Severity
-    text: str
-    is_open: bool = False
-    number: Optional[int] = None
-    refusal: Optional[Refusal] = None
-    undeclared: Optional[str] = None
-    hiding: Optional[str] = None
 
 
 @dataclass
@@ -74,33 +46,38 @@ class _Walk:
     """
 
     def __init__(self, file: File) -> None:
-        self.file = file
+        self.file, self.commands = file, file.commands
         self.meant = Meant(file)
         self.findings: List[Finding] = []
         self.proof: Optional[_Proof] = None
         self.refused_goal: Optional[int] = None
         self.is_certain = True
         self.refused_package: Optional[Command] = None
+        self.unknown_package: Optional[Command] = None
 
-    def step(self, number: int) -> None:
-        """Takes one command's report. A declaration has none."""
-        if self.file.is_declaration(number):
-            return
-        entry = self.file.entry(number)
-        report = entry.report if entry else None
-        if self.file.is_behind_oops(number):
-            self.give_up(number)
-        if report is None or isinstance(report, Lost):
-            self.is_certain = False
-        if isinstance(report, Lost):
-            self.add(number, Severity.WARNING, "nothing is known of this command: %s" % report.reason)
-        elif isinstance(report, Refusal):
-            self.refused(number, report)
-        elif isinstance(report, Goals):
+    def go(self) -> None:
+        """Takes the commands' reports. A declaration has none."""
+        declared, behind_oops = self.file.notation.declared, self.file.behind_oops()
+        for number, entry in enumerate(self.file.entries()):
+            if number not in declared:
+                if number in behind_oops:
+                    self.give_up(number)
+                self.step(number, entry.report if entry is not None else None)
+
+    def step(self, number: int, report: Optional[Union[Report, Lost]]) -> None:
+        """Takes one command's report."""
+        if isinstance(report, Goals):
             self.accepted(number, report)
         elif isinstance(report, Made):
             self.proof = self.refused_goal = None
             self.is_certain = True
+        elif isinstance(report, Refusal):
+            self.refused(number, report)
+        else:
+            self.is_certain = False
+            self.unknown_package = self.commands[number].package or self.unknown_package
+            if report is not None:
+                self.add(number, Severity.WARNING, "nothing is known of this command: %s" % report.reason)
 
     def give_up(self, number: int) -> None:
         """A hidden `oops` before a command ends the open proof."""
@@ -112,7 +89,7 @@ class _Walk:
 
     def accepted(self, number: int, report: Goals) -> None:
         """A command after which a proof is open."""
-        command = self.file.commands[number]
+        command = self.commands[number]
         if command.word == "g":
             self.refused_goal = None
             self.is_certain = True
@@ -122,7 +99,7 @@ class _Walk:
 
     def refused(self, number: int, refusal: Refusal) -> None:
         """A refused command. What follows from an error above is a note, or isn't said."""
-        command, proof = self.file.commands[number], self.proof
+        command, proof = self.commands[number], self.proof
         is_own = refusal.number in OWN
         if command.error is not None:
             self.cause(number, refusal)
@@ -137,7 +114,7 @@ class _Walk:
             text += _remaining(View.of(self.file, number), proof.last)
         text += self.meant.said(number, refusal)
         if refusal.number == protocol.NAME_TAKEN:
-            text += self.namesake(number, refusal.argument.split(":")[-1])
+            text += self.namesake(number, *refusal.argument.rpartition(":")[::2])
         cause = self.cause(number, refusal)
         if refusal.number == protocol.IN_A_PROOF and proof:
             proof.is_swallowing = True
@@ -151,9 +128,9 @@ class _Walk:
         self.findings.append(Finding(first, last, severity, text, number=number, refusal=refusal))
 
     def refused_part(self, number: int, refusal: Refusal, text: str) -> None:
-        """A refused command of a package: the first one is told, in its words; the others follow from it."""
-        command = self.file.commands[number]
-        is_told, cause = self.refused_package is command.package, self.cause(number, refusal)
+        """A refused command of a package: the first one is told, in its words, once those before it are known; the others follow from it."""
+        command = self.commands[number]
+        is_told, cause = command.package in (self.refused_package, self.unknown_package), self.cause(number, refusal)
         self.refused_package = command.package
         if is_told:
             return
@@ -164,10 +141,9 @@ class _Walk:
         start, end = command.range(0, 1)
         self.findings.append(Finding(start, max(end, start + 1), Severity.ERROR if cause is None else Severity.NOTE, told, number=number, refusal=refusal))
 
-    def namesake(self, number: int, name: str) -> str:
-        """Where a command above has a name too. By its text alone: what became of it may not be known yet."""
-        other = next((at for at in range(number) if self.file.commands[at].name == name and self.file.commands[at].word in notation.MAKERS), None)
-        return "" if other is None else " (it is named on line %d)" % self.line(other)
+    def namesake(self, number: int, kind: str, name: str) -> str:
+        """Where a command above, or an imported theory, has a name too."""
+        return _namesake(self.meant, number, kind, name)
 
     def is_told(self, number: int, refusal: Refusal) -> bool:
         """Whether an import's refusal is told by what stands beside the file."""
@@ -178,7 +154,7 @@ class _Walk:
 
         None where the refusal is an error of its own.
         """
-        command, proof = self.file.commands[number], self.proof
+        command, proof = self.commands[number], self.proof
         if refusal.number == protocol.NO_PROOF and self.refused_goal is not None:
             cause = self.refused_goal
             self.refused_goal = None if command.word in ("qed", "oops") else cause
@@ -199,13 +175,13 @@ class _Walk:
 
     def add(self, number: int, severity: Severity, text: str, is_open: bool = False) -> None:
         """Says something of a command's first word."""
-        command = self.file.commands[number]
+        command = self.commands[number]
         end = command.place(len(command.word)) if command.word else command.start + 1
         self.findings.append(Finding(command.start, end, severity, text, is_open, number))
 
     def line(self, number: int) -> int:
         """The line of a command, from 1."""
-        return self.file.lines.line(self.file.commands[number].start) + 1
+        return self.file.lines.line(self.commands[number].start) + 1
 
 
 def _remaining(view: View, report: Goals) -> str:
@@ -220,8 +196,7 @@ def _remaining(view: View, report: Goals) -> str:
 def findings(file: File) -> List[Finding]:
     """All that there is to say of the file now, in its order."""
     walk = _Walk(file)
-    for number in range(len(file.commands)):
-        walk.step(number)
+    walk.go()
     walk.finish()
     said = walk.findings + _form(file) + _hints(file)
     return sorted(said, key=lambda finding: (finding.start, finding.severity))
@@ -231,8 +206,7 @@ def unknown(file: File) -> List[Tuple[int, int, bool]]:
     """The ranges of commands of which nothing is known yet, those side by side as one; and whether one runs for long already."""
     found: List[Tuple[int, int, bool]] = []
     is_last = False
-    for number, command in enumerate(file.commands):
-        entry = file.entry(number)
+    for entry, command in zip(file.entries(), file.commands):
         is_unknown = entry is not None and entry.report is None
         if is_unknown and is_last and found[-1][2] == entry.is_slow:
             found[-1] = found[-1][0], command.end, entry.is_slow
@@ -246,8 +220,7 @@ def refused(file: File) -> List[Tuple[int, int]]:
     """The ranges of commands that weren't accepted, or sent: also those of which nothing is said. Those side by side are one."""
     found: List[Tuple[int, int]] = []
     is_last = False
-    for number, command in enumerate(file.commands):
-        entry = file.entry(number)
+    for number, (entry, command) in enumerate(zip(file.entries(), file.commands)):
         is_refused = not file.is_declaration(number) and (entry is None or isinstance(entry.report, (Refusal, Lost)))
         if is_refused:
             found[-1 if is_last else len(found):] = [(found[-1][0] if is_last else command.start, command.end)]
@@ -257,13 +230,14 @@ def refused(file: File) -> List[Tuple[int, int]]:
 
 def _form(file: File) -> List[Finding]:
     """What is wrong with the file's form, and with its notation."""
+    commands, read = file.commands, file.notation
     return [
         Finding(blemish.start, blemish.end, Severity.ERROR if blemish.is_error else Severity.WARNING, blemish.text)
-        for blemish in file.blemishes + file.context + file.notation.blemishes] + [
-        Finding(*command.range(0, 1), Severity.WARNING, "%s isn't proved: it is an axiom by this sorry" % command.name, True, number)
-        for number, command in enumerate(file.commands) if is_sorry(command) and command.word == "new_axiom"] + [
-        _misread(file, number, command.as_written.range(command.error.start, command.error.end), command.error)
-        for number, command in enumerate(file.commands) if command.error is not None]
+        for blemish in file.blemishes + file.context + read.blemishes] + [
+        Finding(*commands[number].range(0, 1), Severity.WARNING, "%s isn't proved: it is an axiom by this sorry" % commands[number].name, True, number)
+        for number in (range(len(commands)) if read.has_packages else ()) if is_sorry(commands[number]) and commands[number].word == "new_axiom"] + [
+        _misread(file, number, commands[number].as_written.range(commands[number].error.start, commands[number].error.end), commands[number].error)
+        for number in read.misread]
 
 
 def is_sorry(command: Command) -> bool:
@@ -273,8 +247,18 @@ def is_sorry(command: Command) -> bool:
 
 def _misread(file: File, number: int, where: Tuple[int, int], error: Misread) -> Finding:
     """What is wrong with a command as notation, with the theories that declare what isn't declared there."""
-    text = error.text + (_declared_by(file, error.unknown) if error.unknown else "")
+    text = error.text + (_declared_by(file, error.unknown) if error.unknown else "") + (_namesake(Meant(file), number, *error.taken) if error.taken else "")
     return Finding(*where, Severity.ERROR, text, number=number, undeclared=error.unknown, hiding=error.hiding)
+
+
+def _namesake(meant: Meant, number: int, kind: str, name: str) -> str:
+    """Words on where a command above, or an imported theory, has a name too. By the texts alone: what became of a command may not be known yet."""
+    file = meant.file
+    other = next((at for at in range(number) if file.commands[at].name == name and file.commands[at].word in notation.MAKERS), None)
+    if other is not None:
+        return " (it is named on line %d)" % (file.lines.line(file.commands[other].start) + 1)
+    maker = meant.maker(kind, name)
+    return " (it is %s's)" % maker if maker else ""
 
 
 def _declared_by(file: File, written: str) -> str:

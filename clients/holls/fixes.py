@@ -8,8 +8,8 @@ from typing import Iterator, List, Optional, Sequence
 
 from holls import declaring, graph, manual, names, notation, protocol, syntax, words
 from holls.bound import bound_type
-from holls.files import File
-from holls.findings import Finding, Severity
+from holls.files import File, theory_name
+from holls.found import Finding, Severity
 from holls.names import TACTIC, THEOREM
 from holls.packages.scope import THEORY
 
@@ -27,6 +27,8 @@ class Fix:
 def fixes(finding: Finding, file: File, files: Sequence[File], every: Sequence[File]) -> List[Fix]:
     """What could be done; `files` are those that stand in the server, `every` all of the project."""
     if finding.number is not None and file.commands[finding.number].package is not None:
+        return list(_base(file, every))
+    if "rests on the theory %s:" % THEORY in finding.text:
         return list(_base(file, every))
     if finding.is_open:
         return list(_ends(file, finding.number))
@@ -107,8 +109,10 @@ def _declaring(written: str, file: File, every: Sequence[File]) -> Iterator[Fix]
 
 def _base(file: File, every: Sequence[File]) -> Iterator[Fix]:
     """The theory on which packages rest, to be imported."""
-    by_name = {other.theory.name: other for other in every}
-    if THEORY in by_name and not graph.is_importing(file, by_name[THEORY], by_name) and not graph.is_importing(by_name[THEORY], file, by_name):
+    by_name = {other.name: other for other in every}
+    base = by_name.get(THEORY)
+    is_there = base is not None and (graph.is_importing(file, base, by_name) or graph.is_importing(base, file, by_name))
+    if not is_there and (base is not None or any(theory_name(path) == THEORY for path in file.neighbours())):
         place = _import_place(file)
         yield Fix("Import %s" % THEORY, place, place, "import %s;;\n" % THEORY)
 
@@ -156,8 +160,17 @@ def _imports(name: str, kind: str, file: File, every: Sequence[File]) -> Iterato
     for other in every:
         makes = any(one.kind == kind and one.name == name for one in names.written(other))
         if makes and not graph.is_importing(other, file, by_name):
-            place = _import_place(file)
-            yield Fix("Import %s, which makes %s" % (other.name, name), place, place, "import %s;;\n" % other.name)
+            yield _import(other.name, name, file)
+    known = {*by_name, *(one.name for one in file.with_imports())}
+    for other_name in declaring.makers(file.neighbours(), name):
+        if other_name not in known:
+            yield _import(other_name, name, file)
+
+
+def _import(theory: str, name: str, file: File) -> Fix:
+    """The import of a theory that makes a name."""
+    place = _import_place(file)
+    return Fix("Import %s, which makes %s" % (theory, name), place, place, "import %s;;\n" % theory)
 
 
 def _theorem(finding: Finding, name: str, file: File, files: Sequence[File], every: Sequence[File]) -> Iterator[Fix]:

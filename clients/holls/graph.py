@@ -2,10 +2,12 @@
 
 from __future__ import annotations
 
+import os
 from collections import deque
 from typing import Callable, Dict, Iterable, List, Sequence, Set, Union
 
 from holls.files import File
+from holls.projects import LIBRARY
 from holls.text import Blemish
 
 Load = Callable[[File, str], Union[File, str]]
@@ -26,9 +28,20 @@ def with_imports(files: Sequence[File], load: Load) -> List[File]:
                 found.context = []
                 known[name] = found
                 waiting.append(found)
+    _tell_of_library(known.values())
     _refuse_circles(known)
     share_notation(known.values())
     return list(known.values())
+
+
+def _tell_of_library(files: Iterable[File]) -> None:
+    """Tells of a file that stands in the place of a theory of the library which others of the library import."""
+    folders = {file.name: os.path.dirname(os.path.abspath(file.path)) for file in files}
+    importers = {name: file.name for file in files if folders[file.name] == LIBRARY for name in file.imports}
+    for file in files:
+        if file.name in importers and folders[file.name] != LIBRARY:
+            told = "the library has a theory %s too, which its theory %s imports: this file stands in its place; rename it if that isn't meant"
+            file.context.append(file.first_line(told % (file.name, importers[file.name]), False))
 
 
 def share_notation(files: Iterable[File]) -> None:

@@ -61,7 +61,7 @@ PURE_REWRITE_TAC [th; ..] | Rewrites the conclusion by the theorems alone until 
 ONCE_REWRITE_TAC [th; ..] | Replaces each topmost part of the conclusion that a theorem or a basic rewrite matches, once; closes the goal where that gives `T`.
 ONCE_ASM_REWRITE_TAC [th; ..] | Does what ONCE_REWRITE_TAC does, by the assumptions too, which come before the basic rewrites.
 """)
-"""The functions on goals."""
+"""The tactics."""
 
 STEPS = _entries(r"""
 INDUCT_ON `x` | First in a command: induction on a variable of an inductive type, by the theorem of its type.
@@ -99,9 +99,24 @@ INST_TYPE [`:ty`, `:A`; ..] th | Makes the theorem with types for its type varia
 """)
 """The forward rules."""
 
+PACKAGE_RULES = _entries(r"""
+GSYM th | Turns the theorem's equations round, under `!` and `/\`.
+CONJ th th | Of `p` and `q` makes `p /\ q`.
+GEN_ALL th | Puts `!` before the theorem for each of its free variables.
+BETA_RULE th | Makes the theorem with each `(\x. b) a` reduced.
+MATCH_MP th th | Of `!xs. p ==> q` and an instance of `p` makes that of `q`.
+REWRITE_RULE [th; ..] th | Makes the theorem rewritten by those of the list and the basic rewrites.
+PURE_REWRITE_RULE [th; ..] th | Makes the theorem rewritten by those of the list alone.
+SPEC_ALL th | Makes the theorem without its outer `!`s, at variables of their names.
+SPECL [`t`; ..] th | Of `!x y. p` makes `p` at the terms.
+ISPEC `t` th | Of `!x. p` makes `p` at t, and at the types that t asks for.
+ISPECL [`t`; ..] th | Of `!x y. p` makes `p` at the terms, and at the types that these ask for.
+""")
+"""The rules that the clients expand (docs/PACKAGES.md)."""
+
 COMMANDS = _entries(r"""
 g NAME `term` | Opens a proof of the term, of type `bool`, under this name.
-e tac | Runs an expression of functions on goals on the first goal.
+e tac | Runs an expression of tactics on the first goal.
 b | Undoes the newest `e` or `r` of the proof.
 r n | Puts the first goal last, n times.
 qed | Ends the proof and makes the theorem.
@@ -112,7 +127,7 @@ new_constant NAME `:type` | Declares a constant of this type.
 new_axiom NAME `term` | States an axiom.
 new_definition NAME `c v1 .. vn = term` | Defines the constant c and makes the theorem NAME.
 new_basic_type_definition TY ABS REP N1 N2 TH | Defines a type by a theorem TH, `P x`; makes ABS to it, REP from it, and the theorems N1 and N2.
-deftac NAME tac | Names an expression of functions on goals, which then stands where a function without arguments may.
+deftac NAME tac | Names an expression of tactics, which then stands where a tactic without arguments may.
 """)
 """The commands."""
 
@@ -122,7 +137,8 @@ infixl n op constant | Declares an infix that groups to the left, with a precede
 type_infixr n op constructor | Declares an infix of types, which groups to the right.
 notation form constant .. | Gives a form its constants: `if`, `list`, `set`, `pair`, `let`, `num`, or `1` for the type of one element.
 sets constant place .. | Says which of a constant's arguments, counted from 0, are shown as `{x | p}` where they are functions; `result`: it makes a set.
-no_notation op | Takes an operator or a form back.
+abbreviate `NAME x .. = term` | Has `NAME x ..` read as the term, which is what goals show.
+no_notation op | Takes an operator, a form or an abbreviation back.
 local declaration | Declares something for this file alone.
 """)
 """The commands of a file that declare notation, which the program never gets (docs/WRITING.md)."""
@@ -134,6 +150,8 @@ inductive NAME `rules` | Defines the least relation that has the rules, and make
 record NAME = CONSTRUCTOR field:type .. | Declares a type of one constructor, with functions that read and replace its fields, and their laws.
 specification NAME constant .. TH | Of a theorem that something exists makes constants that are so, and the theorem NAME that they are.
 theorems NAME = [th; ..] | Names a list of theorems, which then stands in any list.
+let NAME = `term` | Names a term for the steps behind it; in one step, ``e (let NAME = `term` in STEP)``.
+simp th th .. | Has searches simplify by these theorems, in this file and in those that import it.
 sorry | Ends the open proof: what it was to prove is an axiom from here on, with a warning.
 """)
 """The commands of a file that stand for several of the program's (docs/WRITING.md)."""
@@ -176,5 +194,5 @@ TYPES = {"bool": "the truth values, T and F", "ind": "an infinite type (INFINITY
 
 def entry(name: str) -> Optional[Entry]:
     """What there is to say of a function, a tactical, a rule, a command, a declaration or a package."""
-    every = (FUNCTIONS, STEPS, TACTICALS, RULES, COMMANDS, DECLARATIONS, PACKAGES)
+    every = (FUNCTIONS, STEPS, TACTICALS, RULES, PACKAGE_RULES, COMMANDS, DECLARATIONS, PACKAGES)
     return next((entries[name] for entries in every if name in entries), None)

@@ -8,7 +8,7 @@ from __future__ import annotations
 import re
 from typing import Dict, Iterator, List, Optional, Tuple
 
-from holls import binders, manual, names, notation, protocol
+from holls import binders, declaring, manual, names, notation, protocol
 from holls.files import File
 from holls.names import CONSTANT, IN_TERMS, TACTIC, THEOREM, TYPE
 from holls.protocol import Refusal
@@ -16,9 +16,13 @@ from holls.protocol import Refusal
 LEAST = 3
 """Shorter names of quotations are those of variables, which may be like any constant's."""
 _MOST_LETTERS = 100
+_MOST_ELSEWHERE = 20
+"""Of so many names it is looked at whether theories have them that aren't imported."""
 _MOST_STRANGE = 20
 """Of so many names of a quotation it is looked at whether they are bound, or stand in types."""
 _NAME = re.compile(r"(?<![A-Za-z0-9_'?])[A-Za-z_][A-Za-z0-9_']*")
+_KINDS = {"thm": THEOREM, "const": CONSTANT, "type": TYPE, "tac": TACTIC}
+"""The program's words for kinds of names."""
 _OF_QUOTATIONS = (protocol.UNTYPABLE, protocol.NOT_BOOL, protocol.ARITY)
 
 
@@ -28,10 +32,14 @@ class Meant:
     def __init__(self, file: File) -> None:
         self.file = file
         self._likes: Dict[str, Dict[str, List[Tuple[int, str]]]] = {}
+        self._makers: Dict[str, List[str]] = {}
 
     def said(self, number: int, refusal: Refusal) -> str:
         """Words on the names that were meant in a refused command, or none."""
         name = refusal.argument
+        elsewhere = self._elsewhere(name) if refusal.number in (protocol.UNKNOWN_THEOREM, protocol.UNKNOWN_TAC) else ""
+        if elsewhere:
+            return elsewhere
         if refusal.number == protocol.UNKNOWN_THEOREM:
             return _question(self.like(THEOREM, name, number))
         if refusal.number == protocol.UNKNOWN_TAC:
@@ -41,6 +49,24 @@ class Meant:
             near = self.like(CONSTANT, name, number)
             return "; or did you mean the constant %s?" % near if near else ""
         return self._in_quotation(number, refusal.argument) if refusal.number in _OF_QUOTATIONS else ""
+
+    def _elsewhere(self, name: str) -> str:
+        """Words on the theories that have a name and aren't imported. Of a few names: the texts of all files are looked at."""
+        if name not in self._makers:
+            if len(self._makers) >= _MOST_ELSEWHERE:
+                return ""
+            known = {file.name for file in self.file.with_imports()}
+            self._makers[name] = [one for one in declaring.makers(self.file.neighbours(), name) if one not in known]
+        makers = self._makers[name]
+        return "; %s has it: import it" % " or ".join(makers[:3]) if makers else ""
+
+    def maker(self, kind: str, name: str) -> Optional[str]:
+        """The imported theory, or the prelude, in which a name is made; by the program's word for its kind."""
+        of_kind = _KINDS.get(kind, kind)
+        if any(one.kind == of_kind and one.name == name for one in names.PRELUDE):
+            return "the prelude"
+        makers = [file.name for file in self.file.with_imports()[1:] if any(one.kind == of_kind and one.name == name for one in names.written(file))]
+        return makers[0] if makers else None
 
     def like(self, kind: str, name: str, number: int) -> Optional[str]:
         """The name of a kind that stands before a command and is like one that doesn't: of several the last one that was made."""

@@ -1,4 +1,4 @@
-"""The names that files make: theorems, constants, types and functions on goals, with what is shown of them; and which stand at a place."""
+"""The names that files make: theorems, constants, types and tactics, with what is shown of them; and which stand at a place."""
 
 from __future__ import annotations
 
@@ -14,7 +14,7 @@ from holls.view import View
 
 HIDDEN = "pk_"
 """So begin the names of what packages make for themselves."""
-THEOREM, CONSTANT, TYPE, TACTIC = "theorem", "constant", "type", "function on goals"
+THEOREM, CONSTANT, TYPE, TACTIC = "theorem", "constant", "type", "tactic"
 IN_TERMS = (CONSTANT, TYPE)
 """The kinds of names that stand in quotations."""
 
@@ -210,7 +210,7 @@ def _uses_in_package(file: File, command: Command, target: Known, pattern: "re.P
 
 
 def kind_outside(command: Command, place: int) -> str:
-    """The kind of the name at a place of a command's text, outside quotations: a function on goals or a theorem."""
+    """The kind of the name at a place of a command's text, outside quotations: a tactic or a theorem."""
     text = command.text
     is_function = command.word in notation.STEPS and (notation.is_made_name(text, place) or notation.is_function_place(text, place))
     return TACTIC if is_function else THEOREM

@@ -15,7 +15,7 @@ TACS = {
     "MATCH_MP_TAC": "a theorem", "BETA_TAC": "", "REWRITE_TAC": "a list of theorems", "ONCE_REWRITE_TAC": "a list of theorems",
     "PURE_REWRITE_TAC": "a list of theorems", "ASM_REWRITE_TAC": "a list of theorems", "ONCE_ASM_REWRITE_TAC": "a list of theorems",
 }
-"""The functions on goals of HOL Light that the project has a name for, and their arguments."""
+"""The tactics of HOL Light that the project has a name for, and their arguments."""
 
 TACTICALS = ("THEN", "THENL", "ORELSE", "REPEAT", "TRY", "CHANGED_TAC", "EVERY", "FIRST", "REPLICATE_TAC", "DISCH_THEN", "POP_ASSUM",
              "FIRST_ASSUM", "SUBGOAL_THEN")
@@ -29,16 +29,18 @@ FORWARD = {
 }
 """The forward rules, and how they are written."""
 
-_FINDS = "the editors' action Find a proof, or `holls prove`, looks for the steps"
+_FINDS = "an editor's action at this step puts those of a proof in its place; `prove` at a prompt and `holls prove` write them"
 
 ELSEWHERE = {
     "ASM_MESON_TAC": _FINDS, "MESON_TAC": _FINDS, "METIS_TAC": _FINDS, "ITAUT_TAC": _FINDS, "TAUT_TAC": _FINDS, "ARITH_TAC": _FINDS,
-    "REAL_ARITH_TAC": "", "ABS_TAC": "", "INDUCT_TAC": "INDUCT_ON `x`, first in a command, is by the theorem of the type of x", "ASM_ARITH_TAC": _FINDS, "CHEAT_TAC": "the command sorry;; ends the proof, with a warning",
-    "SIMP_TAC": "REWRITE_TAC rewrites, without conditions", "ASM_SIMP_TAC": "ASM_REWRITE_TAC rewrites, without conditions",
+    "SET_TAC": _FINDS, "ASM_SET_TAC": _FINDS, "ASM_METIS_TAC": _FINDS, "SIMP_TAC": _FINDS, "ASM_SIMP_TAC": _FINDS, "ASM_ARITH_TAC": _FINDS,
+    "REAL_ARITH_TAC": "", "ABS_TAC": "", "INDUCT_TAC": "INDUCT_ON `x`, first in a command, is by the theorem of the type of x",
+    "LIST_INDUCT_TAC": "INDUCT_ON `l`, first in a command, is by the theorem of lists",
+    "CHEAT_TAC": "the command sorry;; ends the proof, with a warning",
     "COND_CASES_TAC": "DISJ_CASES_TAC (SPEC `b` EXCLUDED_MIDDLE) and COND_CLAUSES make the two cases", "BOOL_CASES_TAC": "DISJ_CASES_TAC takes a theorem p \\/ q",
     "ASM_CASES_TAC": "DISJ_CASES_TAC takes a theorem p \\/ q", "GEN_REWRITE_TAC": "ONCE_REWRITE_TAC and SUBST1_TAC rewrite one place",
     "SUBST_ALL_TAC": "SUBST1_TAC rewrites the goal's conclusion", "SUBST_TAC": "SUBST1_TAC takes one equation",
-    "MATCH_ACCEPT_TAC": "PURE_REWRITE_TAC [th] does it", "CONV_TAC": "BETA_TAC reduces, REWRITE_TAC rewrites",
+    "MATCH_ACCEPT_TAC": "REPEAT GEN_TAC THEN ACCEPT_TAC (SPEC `x` th), or PURE_REWRITE_TAC [th] where that ends", "CONV_TAC": "BETA_TAC reduces, REWRITE_TAC rewrites",
     "FIRST_X_ASSUM": "FIRST_ASSUM keeps the assumption, POP_ASSUM takes out the newest one", "LABEL_TAC": "assumptions have no labels",
     "USE_THEN": "assumptions have no labels: name one by ASSUME `p`", "ASSUM_LIST": "", "POP_ASSUM_LIST": "", "RULE_ASSUM_TAC": "",
     "MAP_EVERY": "EVERY takes a list of expressions", "MAP_FIRST": "FIRST takes a list of expressions", "X_META_EXISTS_TAC": "",
@@ -47,6 +49,9 @@ ELSEWHERE = {
     "DESTRUCT_TAC": "STRIP_ASSUME_TAC strips a theorem", "FIX_TAC": "X_GEN_TAC names a variable", "MONO_TAC": "",
 }
 """Functions on goals of HOL Light that aren't here, each with what to write in its place, if something."""
+
+SEARCHES = {"arith": _FINDS, "prove": _FINDS}
+"""Words for a step in whose place a search puts its own."""
 
 RULES_ELSEWHERE = {
     "GSYM": "(SYM (SPEC `x` th)) turns an equation at an instance", "SPECL": "(SPEC `b` (SPEC `a` th)), the first argument innermost",
@@ -76,7 +81,7 @@ OUTSIDE = MAKERS + ("import",)
 """The commands that are refused while a proof is open."""
 
 STEPS = ("e", "deftac")
-"""The commands with an expression of functions on goals."""
+"""The commands with an expression of tactics."""
 
 PLAIN = frozenset("if then else let in and".split())
 """Words that HOL Light's notation has, and that are plain names here."""
@@ -149,7 +154,7 @@ def is_made_name(text: str, place: int) -> bool:
 
 
 def is_function_place(text: str, place: int) -> bool:
-    """Whether a name at a place of a step's text, outside quotations, is that of a function on goals; else it is a theorem's.
+    """Whether a name at a place of a step's text, outside quotations, is that of a tactic; else it is a theorem's.
 
     It is at the expression's beginning, behind a tactical, and in brackets that stand there.
     """

@@ -214,6 +214,7 @@ def main(given: argparse.Namespace) -> int:
         return _complain("--library: there is no folder %s" % given.library)
     try:
         program = server.find(given.server)
+        server.say_which(program, given.server)
         server.probe(program)
         pages = Pages(given.port, _bridge(given, program[0], library), library)
     except server.NoServer as error:

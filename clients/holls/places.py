@@ -4,9 +4,12 @@ from __future__ import annotations
 
 import re
 from bisect import bisect_right
+from functools import cached_property
+from itertools import accumulate
 from typing import List, Tuple
 
 _LINE_END = re.compile(r"\r\n|\n|\r")
+_LINE = re.compile(r"[^\n]*\n")
 
 
 class Lines:
@@ -14,7 +17,13 @@ class Lines:
 
     def __init__(self, text: str) -> None:
         self.text = text
-        self.starts: List[int] = [0] + [match.end() for match in _LINE_END.finditer(text)]
+
+    @cached_property
+    def starts(self) -> List[int]:
+        """Where they begin."""
+        if "\r" in self.text:
+            return [0] + [match.end() for match in _LINE_END.finditer(self.text)]
+        return [0, *accumulate(map(len, _LINE.findall(self.text)))]
 
     def line(self, place: int) -> int:
         """The line of a place in the text."""
@@ -58,8 +67,7 @@ def _characters(line: str, units: int) -> int:
     return at
 
 
-def changed(text: str, start: Tuple[int, int], end: Tuple[int, int], new: str) -> str:
-    """The text with what stands between two places, each a line and a column in UTF-16 units, replaced."""
-    lines = Lines(text)
+def changed(lines: Lines, start: Tuple[int, int], end: Tuple[int, int], new: str) -> Tuple[str, int]:
+    """The text with what stands between two places, each a line and a column in UTF-16 units, replaced; and the place behind the new text."""
     first, last = lines.place(*start), lines.place(*end)
-    return text[:first] + new + text[max(first, last):]
+    return lines.text[:first] + new + lines.text[max(first, last):], first + len(new)

@@ -21,6 +21,8 @@ SUFFIX = ".hol"
 MOST_FILES = 10_000
 MOST_FOLDERS = 2_000
 PROJECT_FILE_BYTES = 1 << 20
+_MOST_LETTERS, _LIKE = 100, 0.8
+"""Of a name of fewer letters it is told which one was meant, where so much of both is the same."""
 LIBRARY = str(carried.folder("theories"))
 """The library: its theories are found from everywhere, where the project has none of the name."""
 
@@ -87,9 +89,17 @@ class Project:
             return "the theory %s is the library's, which lies outside of %s: add --within %s" % (name, " and ".join(self.within), LIBRARY)
         if found:
             return "the theory %s has several files in this project: %s; rename all but one" % (name, ", ".join(found))
-        where = ", ".join(self.folders) + (" and below" if self.has_file else "")
+        where = ", ".join(self.folders) + (" and below" if self.has_file else "") + (" or in the library" if self.has_library else "")
         cut = "; of its files only %d were looked at" % MOST_FILES if len(self.paths()) >= MOST_FILES else ""
-        return "there is no file %s%s in %s%s" % (name, SUFFIX, where, cut)
+        return "there is no file %s%s in %s%s%s" % (name, SUFFIX, where, cut, self._meant(name))
+
+    def _meant(self, name: str) -> str:
+        """Words on a theory that can be imported and whose name is like one that has no file."""
+        from difflib import get_close_matches  # Which takes a while to load, and is seldom needed.
+
+        known = [other for other in self.importable()[:MOST_FILES] if self._found(other)] if len(name) < _MOST_LETTERS else []
+        near = get_close_matches(name, known, 1, _LIKE)
+        return "; did you mean %s?" % near[0] if near else ""
 
     def paths(self) -> List[str]:
         """All files of the project."""
@@ -101,7 +111,7 @@ class Project:
 
     def importable(self) -> List[str]:
         """The theories that can be imported here."""
-        return sorted({*self._paths, *(_names_of_library() if self.has_library else ())})
+        return sorted({*self._paths, *(names_of_library() if self.has_library else ())})
 
     def names(self) -> List[str]:
         """The theories that have a file in the project."""
@@ -140,7 +150,7 @@ def in_library(name: str) -> List[str]:
 
 
 @lru_cache(maxsize=1)
-def _names_of_library() -> Tuple[str, ...]:
+def names_of_library() -> Tuple[str, ...]:
     """The theories of the library, which doesn't change while a client runs."""
     return tuple(name[:-len(SUFFIX)] for name in _listed(LIBRARY)[0])
 
@@ -178,7 +188,7 @@ class Held(Project):
 
     def missing(self, name: str) -> str:
         """Words for a theory that isn't there."""
-        return "there is no theory %s here: open it, or make a new one of that name" % name
+        return "there is no theory %s here: open it, or make a new one of that name%s" % (name, self._meant(name))
 
 
 class OneProject:

@@ -28,6 +28,11 @@ RESERVED = frozenset(
     "THEN THENL ORELSE REPEAT TRY CHANGED_TAC EVERY FIRST REPLICATE_TAC DISCH_THEN POP_ASSUM FIRST_ASSUM SUBGOAL_THEN ASSUME REFL "
     "SPEC SYM CONJUNCT1 CONJUNCT2 MP INST_TYPE".split())
 
+_WRITTEN = json.JSONEncoder(separators=(",", ":"), ensure_ascii=False).encode
+_QUOTED = json.JSONEncoder(ensure_ascii=False).encode
+_READ = json.JSONDecoder().raw_decode
+_DONE = b'{"ok":true}\n'
+"""The commonest reply."""
 _NAME = re.compile(r"[A-Za-z_][A-Za-z0-9_']*\Z")
 
 
@@ -75,6 +80,9 @@ class Done:
     """The reply to an edit."""
 
 
+DONE = Done()
+
+
 @dataclass(frozen=True)
 class Items:
     """On what a theorem rests; None where no such theorem stands at the theory's end."""
@@ -115,21 +123,34 @@ def is_name(text: str) -> bool:
 
 def line(request: Dict[str, Any]) -> bytes:
     """A request as a line without its newline."""
-    return json.dumps(request, separators=(",", ":"), ensure_ascii=False).encode("utf-8", "replace")
+    return _WRITTEN(request).encode("utf-8", "replace")
+
+
+def edit(op: str, theory: str, at: int, text: str) -> bytes:
+    """An edit of a theory as a line without its newline. A theory's name has no character that JSON escapes."""
+    return ('{"op":"%s","theory":"%s","at":%d,"text":%s}' % (op, theory, at, _QUOTED(text))).encode("utf-8", "replace")
+
+
+def short(theory: str) -> int:
+    """Of fewer characters than so many each text fits into a request's line."""
+    return (LINE_BYTES - len(theory) - 100) // 6
 
 
 def is_too_long(theory: str, text: str) -> bool:
     """Whether a command's text doesn't fit into a request's line, at any place of the theory."""
-    if len(text) * 6 + len(theory) + 100 < LINE_BYTES:
+    if len(text) < short(theory):
         return False
     return len(line({"op": "replace", "theory": theory, "at": COMMANDS, "text": text})) > LINE_BYTES
 
 
 def reply(data: bytes) -> Reply:
     """What a line of the server says."""
+    if data == _DONE:
+        return DONE
     try:
-        value = json.loads(data.decode("utf-8"))
-        return _reply(value)
+        text = data.decode("utf-8").strip()
+        value, end = _READ(text)
+        return _reply(value) if end == len(text) else Unreadable(text[:200])
     except (ValueError, KeyError, TypeError, AttributeError, RecursionError):
         return Unreadable(data[:200].decode("utf-8", "replace"))
 
@@ -149,7 +170,7 @@ def _reply(value: Dict[str, Any]) -> Reply:
         return Theorems(_texts(value["theorems"]))
     if value != {"ok": True}:
         raise ValueError("no reply")
-    return Done()
+    return DONE
 
 
 def _goal(value: Dict[str, Any]) -> Goal:
@@ -159,4 +180,4 @@ def _goal(value: Dict[str, Any]) -> Goal:
 def _texts(values: List[Any]) -> Tuple[str, ...]:
     if not isinstance(values, list):
         raise TypeError("no list")
-    return tuple(str(value) for value in values)
+    return tuple(map(str, values))

@@ -7,7 +7,6 @@ from __future__ import annotations
 
 import hashlib
 import json
-import lzma
 import os
 import platform
 import tempfile
@@ -16,6 +15,11 @@ from pathlib import Path
 from typing import Optional
 
 from holls import carried
+
+try:
+    import lzma
+except ImportError:  # A Python that was built without it.
+    lzma = None  # type: ignore[assignment]
 
 PACKED, ABOUT = "hol_serve.xz", "about.json"
 SYSTEM, MACHINE = "Linux", "x86_64"
@@ -81,6 +85,9 @@ def _has_sum(path: Path, sha256: str) -> bool:
 
 def _unpacked(of: Release) -> bytes:
     """The program's bytes, no more than they should be, and those that the sum says."""
+    if lzma is None:
+        raise Unusable("this Python was built without lzma, which unpacks the released program: take another one, or unpack %s by `xz -dk`, make it "
+                       "executable, and have HOL_SERVE name it" % (of.folder / PACKED))
     try:
         data = lzma.LZMADecompressor().decompress((of.folder / PACKED).read_bytes(), max_length=min(of.size, MOST_BYTES) + 1)
     except lzma.LZMAError as error:

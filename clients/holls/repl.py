@@ -18,7 +18,8 @@ from holls.text import cut
 
 BROKEN = 2
 HISTORY_LINES = 2000
-_GOES_ON = re.compile(r"(?:\b(?:THEN|THENL|ORELSE|REPEAT|TRY|g|e|deftac)|[;,(\[=>\\/])\s*\Z")
+_GOES_ON = re.compile(r"(?:\b(?:THEN|THENL|ORELSE|REPEAT|TRY|g|e|deftac)|[,(\[=>\\/])\s*\Z")
+_ENDS = re.compile(r"#?(?:quit|exit)\s*(?:\(\s*\))?\s*;*\s*\Z")
 _BEGIN, _AGAIN = "# ", "  "
 
 
@@ -40,11 +41,7 @@ def main(given: argparse.Namespace) -> int:
             projects = Project.each(prover, *([given.file] if given.file else []), *folders)
             wanted = os.path.abspath(given.file) if given.file else None
             file = next((one for project in projects for one in project.files.values() if os.path.abspath(one.path) == wanted), None)
-            session = Session(prover, projects, file)
-            try:
-                return Prompt(session).loop()
-            finally:
-                session.close()
+            return Prompt(Session(prover, projects, file)).loop()
     except (Unknown, ProverError, server.NoServer, ValueError) as error:
         print("holls: %s" % error, file=sys.stderr)
         return BROKEN
@@ -74,6 +71,8 @@ class Prompt:
         while True:
             try:
                 for command in _commands(self._read()):
+                    if _ENDS.match(command):
+                        raise EOFError
                     if not self._carry_out(command) and not self.is_terminal:
                         self._refusals += 1
             except KeyboardInterrupt:
@@ -91,7 +90,7 @@ class Prompt:
             print()
             if not self.session.is_saved and not self._is_warned:
                 self._is_warned = True
-                print(self.show.wrong("not saved yet: save FILE%s, or Ctrl-D again to end without" % SUFFIX))
+                print(self.show.wrong("not saved yet: save FILE%s, or once more to end without" % SUFFIX))
                 return False
         return True
 

@@ -4,17 +4,19 @@ from __future__ import annotations
 
 import os
 import re
+from dataclasses import replace
 from typing import Callable, Dict, List, NamedTuple, Optional, Sequence, Tuple, Union
 
-from holls import graph, notation, server, words
-from holls.api import BadQuery, Project, Proof, Prover, Refused, State, Theorem, Theory
+from holls import notation, words
+from holls.api import BadQuery, Kind, Project, Proof, Prover, Refused, State, Theorem, Theory
+from holls.api.shown import Read, read
+from holls.api.values import misread, refused
 from holls.files import File
-from holls.projects import SUFFIX
-from holls.protocol import Made
-from holls.prover.asking import Silent
+from holls.meant import Meant
+from holls.packages import expansion
+from holls.projects import SUFFIX, names_of_library
+from holls.protocol import Made, Refusal
 from holls.prover.command import SECONDS
-from holls.prover.finder import Unprovable
-from holls.prover.warm import NoGoal, Request, Warm
 from holls.surface import declarations
 
 NAME = "session"
@@ -25,6 +27,12 @@ UNNAMED = "GOAL"
 _WORD = re.compile(r"\s*([A-Za-z_][A-Za-z0-9_]*!?|\S*)\s*(.*?)\s*\Z", re.S)
 """A line's first word, and the rest: HOL Light's `e(TAC)` and `b()` too."""
 _NAMED = re.compile(r"[A-Za-z_][A-Za-z0-9_']*\Z")
+_INNER = re.compile(r"\w+ pk_")
+"""What a package makes for itself."""
+_PROVE = re.compile(r"\(\s*`([^`]*)`\s*,(.*)\)\Z", re.S)
+"""HOL Light's `prove (`term`, TAC)`, behind its word."""
+_LET = re.compile(r"([A-Za-z_][A-Za-z0-9_']*)\s*=\s*([A-Za-z_]+)\s*(.*)\Z", re.S)
+"""HOL Light's `let NAME = ..`, behind its word: the name, the next word and the rest."""
 
 
 class Told(NamedTuple):
@@ -49,18 +57,11 @@ class Session:
         self.states: List[State] = []
         self.saved = self.theory.text
         self._before: List[Tuple[Theory, List[State]]] = []
-        self._searcher: Optional[Warm] = None
         self._own: Dict[str, Callable[[str], Told]] = {
             "g": self._goal, "e": self._step, "b": self._back, "r": self._rotate, "p": self._show, "qed": self._end, "top_thm": self._end,
             "oops": self._give_up, "search": self._search, "prove": self._prove, "import": self._import, "history": self._history,
-            "save": self._save, "basis": self._basis, "undo": self._undo, "help": self._help,
+            "save": self._save, "basis": self._basis, "undo": self._undo, "help": self._help, "let": self._let,
         }
-
-    def close(self) -> None:
-        """Ends the program that searches, where one runs."""
-        if self._searcher is not None:
-            self._searcher.stop()
-            self._searcher = None
 
     # The state
 
@@ -86,18 +87,34 @@ class Session:
 
     def own_words(self) -> Tuple[str, ...]:
         """The words that a line may begin with."""
-        return tuple(self._own) + tuple(word for word in (*notation.COMMANDS, *declarations.WORDS) if word not in self._own)
+        return tuple(self._own) + tuple(word for word in (*notation.COMMANDS, *declarations.WORDS, *expansion.PACKAGES) if word not in self._own)
 
     # Lines
 
     def run(self, line: str) -> Told:
         """Carries a command out, without its `;;`. Raises Wrong, ProverError, and KeyboardInterrupt where it is interrupted."""
+        told = self._run(line.rstrip().rstrip(";"))
+        return told._replace(refused=self._helped(told.refused)) if told.refused is not None else told
+
+    def _helped(self, refusal: Refused) -> Refused:
+        """A refusal with words on the name that was meant, where one is like it."""
+        if refusal.kind != Kind.COMMAND:
+            return refusal
+        file = self._file(refusal.command)
+        meant = Meant(file).said(len(file.commands) - 1, Refusal(refusal.number, refusal.argument, refusal.sentence))
+        return replace(refusal, tell=lambda: (refusal.start, refusal.end, refusal.sentence + meant)) if meant else refusal
+
+    def _file(self, command: str) -> File:
+        """The theory with the open proof and one command more, as a file has them."""
+        return self.theory.project.text("%s;;" % "\n\n".join((self.text.rstrip(), command)), self.theory.name).file
+
+    def _run(self, line: str) -> Told:
         word, rest = _WORD.match(line).groups()
         if word == "save!":
             return self._save(rest, True)
         if word in self._own:
             return self._own[word]("" if rest.replace(" ", "") == "()" else rest)
-        if word in notation.COMMANDS or word in declarations.WORDS:
+        if word in notation.COMMANDS or word in declarations.WORDS or word in expansion.PACKAGES:
             return self._make(line)
         near = notation.near(word, self.own_words())
         raise Wrong("`%s` begins no command%s; `help` lists them" % (word, ", perhaps %s does" % near if near else ""))
@@ -132,7 +149,25 @@ class Session:
         return next(name for name in names if name not in taken)
 
     def _step(self, rest: str) -> Told:
-        return self._come_to(self._need().apply(rest))
+        state = self._need()
+        after = state.apply(rest)
+        return self._come_to(self._as_in_a_file(state, rest, after) if isinstance(after, Refused) else after)
+
+    def _as_in_a_file(self, state: State, step: str, why: Refused) -> Union[State, Refused]:
+        """What a refused step comes to as a file would have it: one of a package (INDUCT_ON) is carried out, and kept as it is written."""
+        written = "e " + step.strip()
+        file = self._file(written)
+        last, hidden = file.commands[-1], len(file.commands) - len(self.theory.commands) - len(state.steps) - 2
+        if last.error is not None:
+            return misread(last.as_written.text, last.error)
+        if last.text == read(written, self.theory.view).sent:
+            return why
+        if hidden:
+            raise Wrong("a rule in this step stands for a theorem of its own, which only a file can have in front of the proof: prove it first, and cite it")
+        after = state.apply(last.text.split(None, 1)[1])
+        if isinstance(after, State):
+            return State(state.proof, after.path, state.written + (written,), after.goals)
+        return refused(Read(written, last.translation), Refusal(after.number, after.argument, "")) if after.kind == Kind.COMMAND else after
 
     def _come_to(self, after: Union[State, Refused]) -> Told:
         if isinstance(after, Refused):
@@ -158,12 +193,16 @@ class Session:
         state = self._need()
         if name and not _NAMED.match(name):
             raise Wrong("a theorem's name is a letter or _, then letters, digits, _ or ': qed NAME")
-        theorem = state.qed(name or None)
+        return self._made(state, name or state.proof.name)
+
+    def _made(self, state: State, name: str) -> Told:
+        """Takes the theorem of a proof that is done."""
+        theorem = state.qed(name)
         if isinstance(theorem, Refused):
             return Told(refused=theorem)
         self._become(self.theory.extended(*theorem.script))
         hint = "\n  (undo, and then qed NAME, gives it another name)" if theorem.name.startswith(UNNAMED) else ""
-        return Told("%s\n  %s%s" % (self._shown(theorem), words.rests(theorem.basis or ()), hint))
+        return Told("%s\n  %s%s" % (self._shown(theorem), _rests(theorem), hint))
 
     def _shown(self, theorem: Theorem) -> str:
         """A theorem in notation."""
@@ -180,7 +219,32 @@ class Session:
         if not self._before:
             raise Wrong("nothing was accepted in this session that could be taken back")
         self.theory, self.states = self._before.pop()
-        return Told("taken back: %d commands stand" % len(self.theory.commands), self.state)
+        count = len(self.theory.commands)
+        return Told("taken back: %d command%s" % (count, " stands" if count == 1 else "s stand"), self.state)
+
+    def _let(self, rest: str) -> Told:
+        """HOL Light's ways to name what is made; else the file's own `let`."""
+        found = _LET.match(rest)
+        name, word, more = found.groups() if found else ("", "", "")
+        if word == "prove" and _PROVE.match(more):
+            return self._prove_whole(name, *_PROVE.match(more).groups())
+        if word == "top_thm":
+            return self._end(name)
+        if word.startswith("new_") and more.startswith("`") and word in notation.COMMANDS:
+            return self._make("%s %s %s" % (word, name, more))
+        return self._make("let " + rest)
+
+    def _prove_whole(self, name: str, statement: str, step: str) -> Told:
+        """States a goal, runs a step on it and makes the theorem; or changes nothing."""
+        self._need_none()
+        proof = self.theory.prove(name, statement)
+        after = proof.state.apply(step.strip()) if isinstance(proof, Proof) else proof
+        if isinstance(after, Refused):
+            return Told(refused=after)
+        if not after.is_proved:
+            raise Wrong("%d goal%s left, and no theorem is made; the first one: %s" % (
+                len(after.goals), " is" if len(after.goals) == 1 else "s are", after.shown[0].conclusion))
+        return self._made(after, name)
 
     def _give_up(self, _: str) -> Told:
         name = self._need().proof.name
@@ -196,24 +260,36 @@ class Session:
         if refusals:
             return Told(refused=refusals[0])
         self._become(longer)
-        return Told("\n".join(text for one in reports if isinstance(one, Made) for text in longer.view.made(one).entries))
+        entries = [text for one in reports if isinstance(one, Made) for text in longer.view.made(one).entries]
+        return Told("\n".join(text for text in entries if not _INNER.match(text)))
 
     def _import(self, name: str) -> Told:
         base = self.theory
         if name not in base.project.files:
             having = [one for one in self.projects if name in one.files]
-            if not having and not base.project.take_of_library(name):
-                known = sorted({one for project in self.projects for one in project.names})
-                raise Wrong("there is no theory %s: %s" % (name, "there are " + ", ".join(known) if known else "name a folder by holls repl --in FOLDER"))
-            if len(having) > 1 or having and base.project.files:
+            is_one = len(having) == 1 and not base.project.files
+            is_of_library = not is_one and base.project.take_of_library(name)
+            if not having and not is_of_library:
+                raise Wrong("there is no theory %s%s" % (name, self._theories_for(name)))
+            if not is_one and not is_of_library:
                 raise Wrong("%s is in several projects, or in another one than what stands: name one folder by holls repl --in FOLDER" % name)
-            base = (having or [base.project])[0].text(base.text, base.name)
+            base = having[0].text(base.text, base.name) if is_one else base
         told = self._make("import " + name, base)
         return told if told.refused is not None else Told("%d names are taken from %s" % (len(told.text.splitlines()), name))
+
+    def _theories_for(self, name: str) -> str:
+        """Words on the theories that could be meant by a name that none has."""
+        own = sorted({one for project in self.projects for one in project.names})
+        near = notation.near(name, (*own, *names_of_library()))
+        if near:
+            return "; did you mean %s?" % near
+        return "; there are %s%s, and those of the library" % (", ".join(own[:SHOWN]), " .." if len(own) > SHOWN else "") if own else (
+            " in the library; holls repl --in FOLDER names a folder of yours")
 
     # Questions
 
     def _search(self, pattern: str) -> Told:
+        pattern = pattern[1:-1].strip() if pattern.startswith("[") and pattern.endswith("]") else pattern
         try:
             found = self.theory.theorems(pattern.strip("`") if pattern.startswith("`") else pattern or None)
         except BadQuery as error:
@@ -229,30 +305,19 @@ class Session:
         return Told(self.text.strip() or "nothing was accepted yet")
 
     def _prove(self, rest: str) -> Told:
-        """Looks for steps that close the first goal, as `holls prove` does."""
+        """Looks for steps that close the first goal, as `holls prove` does; or proves a term by a step, as HOL Light's `prove` does."""
+        whole = _PROVE.match(rest)
+        if whole:
+            return self._prove_whole(self._free_name(), *whole.groups())
         state = self._need()
         if state.is_proved:
             raise Wrong("no goal is open: end the proof by qed")
         given = rest.split()
-        names = given[1:] if given[:1] == ["with"] else given
-        file = File(self.theory.name + SUFFIX)
-        file.take(self.text)
-        by_name = {**self.theory.project.files, file.name: file}
-        graph.know_imports(file, by_name)
-        if self._searcher is None:
-            self._searcher = Warm(server.find(self.prover.program))
-        try:
-            imports = graph.all_imports(file, by_name)
-            answer = self._searcher.search(Request(file, len(file.commands) - 1, imports, names=names or None, seconds=SECONDS))
-        except (NoGoal, Silent, Unprovable) as error:
-            raise Wrong(str(error)) from None
-        except KeyboardInterrupt:
-            self.close()
-            raise
-        if answer.steps is None:
-            return Told("none found" + answer.why)
-        told = self._come_to(state.follow(answer.steps))
-        return told._replace(text="\n".join(step + ";;" for step in answer.steps))
+        after = state.find(SECONDS, (given[1:] if given[:1] == ["with"] else given) or None)
+        if isinstance(after, Refused):
+            return Told(after.sentence)
+        self._come_to(after)
+        return Told("\n".join(step + ";;" for step in after.steps[len(state.steps):]), self.state)
 
     # Files
 
@@ -277,17 +342,39 @@ class Session:
 
 SHOWN = 30
 """So many theorems are shown at once."""
+MOST_DEFINITIONS = 6
+"""On so many definitions a theorem may rest, for a line to name them."""
 
 HELP = """\
-g `term`, g NAME `term`   state a goal            search PATTERN     theorems by parts of names, or by a statement with _
-e TAC                     a step                  basis NAME         on what a theorem rests
-b, b n                    take n steps back       history            all that was accepted
-r n                       put the first goal last save FILE.hol      write it into a file (save! over another)
-p                         show the goals          import NAME        take a theory in
-qed, qed NAME             make the theorem        new_definition ..  and the other commands of a file
-oops                      give the proof up       undo               take the last command outside of proofs back, qed too
-prove, prove with NAMES   look for steps that close the goal
-Tab completes a name, Ctrl-C stops a step alone, Ctrl-D ends. A command ends with its line, or with ;; as in a file."""
+g `term`, g NAME `term`     state a goal
+e TAC                       a step
+b, b n                      take n steps back
+r n                         put the first goal last
+p                           show the goals
+qed, qed NAME               make the theorem
+oops                        give the proof up
+prove, prove with NAMES     look for steps that close the goal
+prove (`term`, TAC)         state, prove and make a theorem at once
+let NAME = prove (..)       the same with a name; or let NAME = top_thm ()
+import NAME                 take a theory in
+search PATTERN              theorems by parts of names, or a statement with _
+basis NAME                  on what a theorem rests
+new_definition ..           and the other commands of a file
+undo                        take the last such command back, qed too
+history                     all that was accepted
+save FILE.hol               write it into a file (save! over another)
+quit                        end, as Ctrl-D does
+Tab completes a name, Ctrl-C stops a step alone, Ctrl-D ends. A command ends
+with its line, or with ;; as in a file."""
+
+
+def _rests(theorem: Theorem) -> str:
+    """On what a theorem rests, in a line: its axioms, and few definitions."""
+    basis = theorem.basis or ()
+    axioms = [item for item in basis if item.startswith("axiom:")]
+    if len(basis) - len(axioms) <= MOST_DEFINITIONS:
+        return words.rests(basis)
+    return "rests on %s and %d definitions: basis %s lists them" % (", ".join(axioms) or "no axiom of its own", len(basis) - len(axioms), theorem.name)
 
 
 def _number(text: str, otherwise: int) -> int:

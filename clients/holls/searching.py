@@ -36,7 +36,7 @@ def add_words(parser: argparse.ArgumentParser) -> None:
 def main(given: argparse.Namespace) -> int:
     """Writes the theorems found, the best first: status 0 where there are some, 1 where none, 2 where nothing can be searched."""
     try:
-        units = checking.units(check.ordered(_files(given.files)))
+        units = _once(checking.units(check.ordered(_files(given.files))))
         view = View.of_all(unit.file for unit in units)
         asked = search.query(" ".join(given.query), given.conclusion, view)
         known = PRELUDE + list(_written(units) if given.written else _standing(units, server.find(given.server), given.seconds))
@@ -54,6 +54,14 @@ def _files(named: Optional[List[str]]) -> List[str]:
     if named:
         return named
     return ["."] if any(name.endswith(check.SUFFIX) for _, _, below in os.walk(".") for name in below) else []
+
+
+def _once(units: Sequence[Unit]) -> List[Unit]:
+    """Each file once, though several projects may have it."""
+    found: Dict[str, Unit] = {}
+    for unit in units:
+        found.setdefault(os.path.realpath(unit.file.path), unit)
+    return list(found.values())
 
 
 def _written(units: Sequence[Unit]) -> Iterator[Known]:

@@ -3,17 +3,16 @@
 from __future__ import annotations
 
 import re
-from dataclasses import dataclass
 from typing import Dict, List, Mapping, NamedTuple, Optional, Sequence, Tuple
 
 from holls.notation import OUTSIDE
-from holls.packages import expansion, forward, listed, replacing
+from holls.packages import expansion, forward, lets, listed, replacing, simplifying
 from holls.packages.parts import Course, in_front, parts
 from holls.packages.scope import Asking, Standing
-from holls.surface import declarations
+from holls.surface import abbreviating, declarations
 from holls.surface.declarations import NOTHING, Declaration, Scope
 from holls.surface.errors import Misread
-from holls.surface.table import EMPTY, Table
+from holls.surface.table import EMPTY, Clash, Table
 from holls.surface.translation import Translation, translated
 from holls.surface.vocabulary import MANY, PRELUDE_CONSTANTS, PRELUDE_TYPES, Vocabulary
 from holls.text import Blemish, Command
@@ -21,18 +20,26 @@ from holls.text import Blemish, Command
 _NAMING = frozenset(("new_definition", "new_constant", "new_type", "new_basic_type_definition"))
 _STANDING = frozenset((*_NAMING, "g", "qed", "oops", "new_axiom", "deftac", *expansion.WORDS))
 """The commands that say what stands for packages."""
+_ENDING = frozenset((*OUTSIDE, "qed", "oops", *expansion.WORDS)) - frozenset(expansion.OF_FILES)
+"""The commands at which a proof is over."""
+_OF_FILES = frozenset((*declarations.WORDS, *expansion.OF_FILES, "import"))
+"""The commands that are the file's own."""
+_EXPANDED = frozenset(expansion.WORDS) - _OF_FILES
+"""The packages that stand for commands."""
 _FIRST_NAME = re.compile(r"\s*([A-Za-z_][A-Za-z0-9_']*)")
 
 
-@dataclass(frozen=True)
 class Sent(Command):
     """A command that is sent otherwise than it is written: its text is what is sent, and its places lead from there to the file.
 
     One that can't be read as notation has an error, and an empty text.
     """
 
-    written: Command
-    translation: Translation
+    __slots__ = ("written", "translation")
+
+    def __init__(self, written: Command, translation: Translation) -> None:
+        self.text, self.start, self.end, self.marks = translation.text, written.start, written.end, written.marks
+        self.word, self.name, self.written, self.translation = written.word, written.name, written, translation
 
     @property
     def as_written(self) -> Command:
@@ -55,16 +62,6 @@ class Sent(Command):
     def range(self, start: int, end: int) -> Tuple[int, int]:
         """The range in the file from which a range of what is sent comes."""
         return self.written.range(*self.translation.range(start, end))
-
-    @property
-    def word(self) -> str:
-        """The command's first word."""
-        return self.written.word
-
-    @property
-    def name(self) -> str:
-        """The command's second word."""
-        return self.written.name
 
 
 class Names(NamedTuple):
@@ -92,13 +89,16 @@ class NamesAt(Vocabulary):
 class Notation:
     """What a file's commands are in notation: as they are sent, with what is declared behind each, and what is wrong.
 
-    `declared` are the numbers of the declarations, which the program never gets; `exported` and `vocabulary` are what importing files have of this one.
+    `misread` are the numbers of the commands that have an error; `declared` those of the declarations, which the program never gets; `simple` the
+    theorems that `simp` names here; `exported` and `vocabulary` are what importing files have of this one.
     """
 
     def __init__(self, written: Sequence[Command], imported: Mapping[str, "Notation"]) -> None:
         self.commands: List[Command] = []
         self.has_packages = False
         self.lists = {name for one in imported.values() for name in one.lists}
+        self.simple: Dict[str, None] = {}
+        self._lets: Dict[str, str] = {}
         self._imported = imported
         self._course = Course(lambda: [one.standing for one in self._imported.values()])
         self._own = hash(tuple(command.text for command in written if command.word in _STANDING))
@@ -123,6 +123,7 @@ class Notation:
         self.vocabulary = Vocabulary({**constructors, **{name: number for name, (_, number) in self.names.constructors.items()}},
                                      {**constants, **self.names.constants})
         self._check_constants()
+        self.misread = [number for number, command in enumerate(self.commands) if not command.text and command.error is not None]
 
     def _key(self, imported: Mapping[str, "Notation"]) -> int:
         """What decides what stands behind the file's commands."""
@@ -141,40 +142,53 @@ class Notation:
         return self._course.behind(self.commands)
 
     def _add(self, number: int, command: Command, imported: Mapping[str, "Notation"]) -> None:
-        made: Command = command
         word = command.word
-        if word in declarations.WORDS:
-            self._declare(number, command)
-        elif word == "theorems":
-            self._list(number, command)
-        elif word in expansion.WORDS:
+        if word in _EXPANDED:
             self._expand(command)
             return
-        elif word == "import":
-            self._import(command, imported.get(command.name))
+        if word in _OF_FILES:
+            made = command
+            self._take_of_file(number, command, imported)
         else:
-            self._standing.number = number
-            found = translated(command.text, self._scope.table, self._standing)
-            placed = replacing.translated(found, word, self.lists, lambda: self._course.behind(self.commands), self._placed.get(command.start))
-            self.has_packages = self.has_packages or placed is not found
-            found = placed
-            if found.is_changed:
-                made = Sent(found.text, command.start, command.end, command.marks, command, found)
-            if word in _NAMING:
-                self._take_names(number, made)
+            made = self._translate(number, command, word)
+        if word in _NAMING:
+            self._take_names(number, made)
         self.commands.append(made)
         self.tables.append(self._scope.table)
+
+    def _take_of_file(self, number: int, command: Command, imported: Mapping[str, "Notation"]) -> None:
+        """Takes an import, a declaration, or what only names something."""
+        if command.word == "import":
+            self._import(command, imported.get(command.name))
+        elif command.word in declarations.WORDS:
+            self._declare(number, command)
+        else:
+            self._take_own(number, command)
+
+    def _translate(self, number: int, command: Command, word: str) -> Command:
+        """A command as it is sent."""
+        self._standing.number = number
+        found = self._translated(command)
+        if word in replacing.USING:
+            placed = self._placed.get(command.start) if self._placed else None
+            made = replacing.translated(found, word, self.lists, lambda: self._course.behind(self.commands), placed)
+            self.has_packages = self.has_packages or made is not found
+            found = made
+        return Sent(command, found) if found.is_changed else command
 
     def _put_in_front(self, goal: Command, written: Sequence[Command], at: int) -> None:
         """Puts the hidden theorems in front of a proof that rules in its steps stand for."""
         steps: List[Tuple[Command, Translation]] = []
+        own = dict(self._lets)
         for number in range(at, len(written)):
             command = written[number]
-            if command.word in OUTSIDE or command.word in expansion.WORDS or command.word in ("qed", "oops"):
+            if command.word in _ENDING:
                 break
-            if command.word == "e" and forward.has_rules(command.text):
-                self._standing.number = len(self.commands)
-                found = translated(command.text, self._scope.table, self._standing)
+            self._standing.number = len(self.commands)
+            if command.word == "let":
+                self._let(command, own)
+            elif command.word == "e" and forward.has_rules(command.text):
+                found = self._translated(command, own)
                 steps += [(command, found)] if found.error is None else []
         if not steps:
             return
@@ -201,25 +215,54 @@ class Notation:
         self._course.behind(self.commands)
         self._course.add(found)
 
-    def _list(self, number: int, command: Command) -> None:
-        """Takes a name for a list of theorems, which the program never gets."""
+    def _let(self, command: Command, own: Dict[str, str]) -> None:
+        """Takes a name for a term on the way through a proof, where nothing is told."""
+        try:
+            name, quotation = lets.read(self._translated(command, own).text, Asking(self._course.behind(self.commands)))
+            own[name] = quotation
+        except Misread:
+            return
+
+    def _translated(self, command: Command, own: Optional[Mapping[str, str]] = None) -> Translation:
+        """A command's text as it is sent, with quotations for the names that `let` gave them."""
+        found = translated(command.text, self._scope.table, self._standing)
+        names = self._lets if own is None else own
+        if not names and "let" not in found.text:
+            return found
+        made = lets.translated(found, command.word, names)
+        self.has_packages = self.has_packages or made is not found
+        return made
+
+    def _take_own(self, number: int, command: Command) -> None:
+        """Takes a command that the program never gets: a list of theorems, a name for a term, or rules of the simplifier."""
         self.has_packages = True
         self.declared[number] = Declaration("", (), (), True)
         standing = self._course.behind(self.commands)
         self._standing.number = number
-        found = translated(command.text, self._scope.table, self._standing)
+        found = self._translated(command)
         try:
             if found.error is not None:
                 raise found.error
-            name, members = listed.read(found.text, Asking(standing))
-            standing.lists[name] = members
-            self.lists.add(name)
+            if command.word == "theorems":
+                name, members = listed.read(found.text, Asking(standing))
+                standing.lists[name] = members
+                self.lists.add(name)
+            elif command.word == "let":
+                name, quotation = lets.read(found.text, Asking(standing))
+                self._lets[name] = quotation
+            else:
+                names = dict.fromkeys(simplifying.read(found.text, Asking(standing)))
+                standing.simple.update(names)
+                self.simple.update(names)
         except Misread as error:
             where = (error.start, error.end) if found.error else found.range(error.start, error.end)
             self.blemishes.append(Blemish(*command.range(*where), error.text, True))
 
     def _declare(self, number: int, command: Command) -> None:
         """Takes a declaration; one that can't stand is told, and does nothing."""
+        if abbreviating.is_one(command.text):
+            self._abbreviate(number, command)
+            return
         try:
             declaration = declarations.read(command.text)
             self.declared[number] = declaration or Declaration("", (), (), True)
@@ -228,6 +271,18 @@ class Notation:
         except Misread as error:
             self.declared[number] = Declaration("", (), (), True)
             self.blemishes.append(Blemish(*command.range(error.start, error.end), error.text, True))
+
+    def _abbreviate(self, number: int, command: Command) -> None:
+        """Takes an abbreviation."""
+        self.declared[number] = Declaration("", (), (), True)
+        self._standing.number = number
+        try:
+            made = abbreviating.read(command.text, self._scope.table, self._standing)
+            self._scope = self._scope.abbreviated(made, command.word == "local")
+        except Misread as error:
+            self.blemishes.append(Blemish(*command.range(error.start, error.end), error.text, True))
+        except Clash as clash:
+            self.blemishes.append(Blemish(command.start, command.end, str(clash), True))
 
     def _import(self, command: Command, other: Optional["Notation"]) -> None:
         """Takes what another file declares."""
@@ -260,7 +315,7 @@ class Notation:
             kind = self.vocabulary.constructors if declaration.kind == "type_infixr" else self.vocabulary.constants
             known = PRELUDE_TYPES if declaration.kind == "type_infixr" else PRELUDE_CONSTANTS
             for name, start, end in declaration.constants:
-                if name not in kind and name not in known:
+                if name not in kind and name not in known and name not in self._scope.table.abbreviations:
                     told = "nothing makes the constant %s in this file or in those that it imports" % name
                     self.blemishes.append(Blemish(*self.commands[number].range(start, end), told, False))
 

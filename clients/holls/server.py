@@ -11,7 +11,7 @@ from dataclasses import dataclass
 from pathlib import Path
 from typing import FrozenSet, List, Optional, Union
 
-from holls import protocol, released
+from holls import protocol
 from holls.carried import CLONE
 from holls.say import complain
 
@@ -178,6 +178,8 @@ def find(named: Optional[str] = None) -> List[str]:
 
 def _released() -> str:
     """The path of the released program."""
+    from holls import released  # Here alone, as it needs much that is slow to load.
+
     try:
         release = released.release()
         if release is not None:
@@ -193,9 +195,14 @@ def say_which(program: List[str], named: Optional[str]) -> None:
     """Tells on standard error which program is used, where nobody has named it."""
     if named or os.environ.get(VARIABLE):
         return
-    release = None if program[0] == str(_BUILT) else released.release()
-    is_released = release is not None and Path(program[0]).name.endswith(release.sha256[:16])
-    complain("with %s" % (release.told() if is_released else "the program %s" % os.path.relpath(program[0])))
+    shown = "the program %s" % os.path.relpath(program[0])
+    if program[0] != str(_BUILT):
+        from holls import released
+
+        release = released.release()
+        if release is not None and Path(program[0]).name.endswith(release.sha256[:16]):
+            shown = release.told()
+    complain("with %s" % shown)
 
 
 def probe(program: List[str], seconds: float = 120) -> FrozenSet[str]:

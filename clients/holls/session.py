@@ -12,7 +12,7 @@ from __future__ import annotations
 import time
 from collections import deque
 from dataclasses import dataclass
-from typing import Callable, Deque, FrozenSet, List, Optional, Tuple, Union
+from typing import Callable, Deque, Dict, FrozenSet, List, Optional, Tuple, Union
 
 from holls import protocol
 from holls.difference import INSERT, REPLACE
@@ -55,9 +55,11 @@ class Session:
     def __init__(self, program: List[str], events: Events, served: FrozenSet[str], sweep: Sweep,
                  told: Callable[[], None], seconds: float) -> None:
         self.theories: List[Theory] = []
+        self._by_name: Dict[str, Theory] = {}
         self.failure: Optional[str] = None
         self.slow_seconds = SLOW_SECONDS
-        self._program, self._events, self._served, self._seconds = program, events, served, seconds
+        self._program, self._events, self._served = program, events, served
+        self.seconds = seconds
         self._sweep, self._told = sweep, told
         self._server: Optional[Server] = None
         self._standing = Standing()
@@ -71,12 +73,13 @@ class Session:
         self._begun: Optional[float] = None
         self._start_seconds = 0.0
         self._ends = self._rounds = 0
-        self._is_refused = False
+        self._is_refused = self._dozes = False
+        self._short: Optional[Change] = None
 
     def want(self, theories: List[Theory]) -> None:
         """Takes the theories as they are to stand, in the order in which they are to be run."""
-        self.theories = theories
-        self.failure, self._ends, self._rounds = None, 0, 0
+        self.theories, self._by_name = theories, {theory.name: theory for theory in theories}
+        self.failure, self._ends, self._rounds, self._dozes = None, 0, 0, False
         self._begin_edit()
         if self._pending:
             self._pending[0].limit = None
@@ -85,7 +88,16 @@ class Session:
     def ask(self, request: bytes, answer: Answer) -> None:
         """Asks something beside the reports, once the server is in step. The answer is Lost where the server ends before."""
         self._questions.append((request, answer))
+        self._dozes = False
         self.pump()
+
+    def doze(self) -> bool:
+        """Ends the server until something is wanted or asked anew, if nothing is under way. Answers whether that was so."""
+        if self._pending or self._changes or self._questions or not self._is_in_step:
+            return False
+        self.stop()
+        self._dozes = True
+        return True
 
     def ask_beside(self, theory: str, commands: List[str], answer: Answer) -> None:
         """Asks for the report on the last of some commands, in a theory of their own that stands behind all others for so long."""
@@ -120,7 +132,7 @@ class Session:
 
     def _fill(self) -> None:
         """Finds what can be sent now."""
-        if self.failure or not self._is_in_step and not self._find_changes():
+        if self.failure or self._dozes or not self._is_in_step and not self._find_changes():
             return
         window = _window(self._took_edit)
         while self._changes and len(self._pending) < window:
@@ -187,7 +199,7 @@ class Session:
         self._lines.append(line)
 
     def _theory(self, name: str) -> Optional[Theory]:
-        return next((theory for theory in self.theories if theory.name == name), None)
+        return self._by_name.get(name)
 
     def _entry(self, change: Change) -> Optional[Entry]:
         """The command that a change puts, if it is wanted there and can be left out. A hidden one never is why a server fails."""
@@ -243,10 +255,15 @@ class Session:
             self._refused(change, entry, reply)
 
     def _refused(self, change: Change, entry: Optional[Entry], reply: protocol.Reply) -> None:
-        """An edit that changed nothing: sent again once, or from the start where another command may have had no memory."""
+        """An edit that changed nothing: sent again once. Where it has no memory again, another command may be why: then from the start.
+
+        At the memory line the program lets go of what it kept for later, so that the same line may find memory the second time.
+        """
         has_no_memory = isinstance(reply, protocol.Error) and reply.number == protocol.MEMORY
         if has_no_memory and not self._standing.is_last(change, self.theories):
-            self.stop()
+            if self._short == change:
+                self.stop()
+            self._short = None if self._short == change else change
         elif has_no_memory and entry:
             self._strike(entry, "hol_serve had no memory for it", True)
         else:
@@ -265,12 +282,12 @@ class Session:
         else:
             self._lose("gave no report when asked for one")
 
-    @staticmethod
-    def _strike(entry: Entry, reason: str, is_left_out: bool) -> None:
+    def _strike(self, entry: Entry, reason: str, is_left_out: bool) -> None:
         """A command that has cost two servers, or memory twice, isn't asked for again; nor run, where that was why."""
         entry.strikes += 1
         if entry.strikes > 1:
             entry.report, entry.is_left_out = protocol.Lost(reason), is_left_out
+            self._standing.look_again()
 
     def _lose(self, reason: str) -> None:
         """Gives the server up. The command that it ran may be why; an end where none was run is forgiven once, as are a few others."""
@@ -356,7 +373,7 @@ class Session:
             head.limit = max(PATIENCE_SECONDS, 2 * self._start_seconds + back)
         else:
             runs = change is None or self._entry(change)
-            head.limit = self._seconds if runs else max(START_SECONDS, self._seconds)
+            head.limit = self.seconds if runs else max(START_SECONDS, self.seconds)
 
     def _is_wanted(self, change: Optional[Change]) -> bool:
         """Whether a change under way is what would be sent first now."""
@@ -369,7 +386,7 @@ class Session:
         if entry is None:
             self._lose(stopped or "gave no answer within %d seconds" % head.limit)
             return
-        entry.report = protocol.Lost(stopped or "hol_serve gave no answer within %d seconds" % self._seconds)
+        entry.report = protocol.Lost(stopped or "hol_serve gave no answer within %d seconds" % self.seconds)
         entry.is_left_out = head.change is not None
         self.stop()
 

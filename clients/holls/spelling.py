@@ -42,14 +42,11 @@ def add_words(parser: argparse.ArgumentParser) -> None:
 
 def main(given: argparse.Namespace) -> int:
     """Writes the files: status 0, or 1 where a command can't be read or printed and is left as it is, or 2 where a file can't be read."""
-    is_plain = given.kind == "expand"
-    left = 0
     try:
-        for path in _in_order(given.files):
-            text, troubles = expanded(_file(path)) if is_plain else in_notation(path)
+        made = _made(given.files, given.kind == "expand")
+        for path, text, troubles in made:  # All are made before one is written: what a file declares, those that import it have in either form.
             for trouble in troubles:
                 print("holls: %s:%s" % (path, trouble), file=sys.stderr)
-            left += len(troubles)
             if given.in_place:
                 with open(path, "w", encoding="utf-8", newline="") as stream:
                     stream.write(text)
@@ -58,17 +55,15 @@ def main(given: argparse.Namespace) -> int:
     except (check.CannotCheck, OSError) as error:
         print("holls: %s" % error, file=sys.stderr)
         return BROKEN
-    return FAILED if left else 0
+    return FAILED if any(troubles for _, _, troubles in made) else 0
 
 
-def _in_order(paths: List[str]) -> List[str]:
-    """The files that are named, each after those that it imports."""
-    return [file.path for files in check.ordered(paths).values() for file in files if file.path in paths]
-
-
-def _file(path: str) -> File:
-    """A file with what those that it imports declare."""
-    return next(file for files in check.ordered([path]).values() for file in files if file.path == path)
+def _made(paths: List[str], is_plain: bool) -> List[Tuple[str, str, List[str]]]:
+    """The files that are named, each after those that it imports: its path, its text in the other form, and what stays as it is."""
+    named = [file for files in check.ordered(paths).values() for file in files if file.path in paths]
+    for file in [] if is_plain else named:
+        file.take(_declaring(file.lines.text))
+    return [(file.path, *(expanded(file) if is_plain else in_notation(file))) for file in named]
 
 
 def expanded(file: File) -> Tuple[str, List[str]]:
@@ -125,14 +120,12 @@ def _trouble(file: File, place: int, text: str) -> str:
     return "%d: left as it is: %s" % (file.lines.line(place) + 1, text)
 
 
-def in_notation(path: str) -> Tuple[str, List[str]]:
-    """A plain file's text in notation, and what quotations stay as they are, each with its line.
+def in_notation(file: File) -> Tuple[str, List[str]]:
+    """A plain file's text in notation, where it declares that by commands, and what quotations stay as they are, each with its line.
 
     One that isn't plain stays, and so does one that has nothing to be written otherwise. A command that is in notation already isn't read as a plain one:
     there an operator between two terms is an argument.
     """
-    file = _file(path)
-    file.take(_declaring(file.lines.text))
     changes: List[Change] = []
     troubles: List[str] = []
     for number, command in enumerate(file.commands):

@@ -3,7 +3,7 @@
 from __future__ import annotations
 
 from collections import deque
-from typing import Deque, Iterable, Iterator, List, Optional, Sequence
+from typing import Deque, Iterable, Iterator, List, Optional, Sequence, Set
 
 from holls.files import File
 from holls.theory import Job, Theory
@@ -32,6 +32,7 @@ class Sweep:
 
     def __init__(self) -> None:
         self.files: List[File] = []
+        self._asked: Optional[Set[int]] = None
         self.is_resting = False
         self._first: Deque[Job] = deque()
         self._jobs: Deque[Job] = deque()
@@ -39,6 +40,7 @@ class Sweep:
     def begin(self, files: Sequence[File]) -> None:
         """Sets what is asked for."""
         self.files = list(files)
+        self._asked = None
         self._first.clear()
         self._jobs.clear()
 
@@ -49,8 +51,10 @@ class Sweep:
                 self._first.appendleft(job)
 
     def asks(self, theory: Theory) -> bool:
-        """Whether a theory's commands are asked for."""
-        return any(file.theory is theory for file in self.files)
+        """Whether a theory's commands are asked for. A file's theory is one and the same for all its texts."""
+        if self._asked is None:
+            self._asked = {id(file.theory) for file in self.files}
+        return id(theory) in self._asked
 
     def pick(self) -> Optional[Job]:
         """The next job."""
@@ -64,7 +68,8 @@ class Sweep:
 
     def _fill(self) -> None:
         for file in self.files:
-            self._jobs.extend(unknown(file.theory, range(file.theory.frontier)))
+            if not file.theory.is_settled:
+                self._jobs.extend(unknown(file.theory, range(file.theory.frontier)))
 
 
 def _take(jobs: Deque[Job]) -> Optional[Job]:

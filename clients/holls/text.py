@@ -7,11 +7,12 @@ and with ASCII for the mathematical symbols of SYMBOLS; its marks lead from a pl
 from __future__ import annotations
 
 import re
-from bisect import bisect_right
-from dataclasses import dataclass
+from bisect import bisect_left, bisect_right
+from dataclasses import dataclass, field
 from functools import lru_cache
-from typing import Iterator, List, NamedTuple, Optional, Tuple
+from typing import Dict, Iterator, List, NamedTuple, Optional, Tuple
 
+from holls.common import ends
 from holls.surface.errors import Misread
 
 SPACE = " \t\r\n"
@@ -34,18 +35,27 @@ _JOINING = set("<=>\\/-?!~@") | {key[0] for key in SYMBOLS}
 _WORD_OR_OPERATOR = frozenset("_'+*#&|^%$:.")
 _WORD = re.compile(r"[A-Za-z_][A-Za-z0-9_']*")
 
+Marks = Tuple[Tuple[int, int], ...]
 
-@dataclass(frozen=True)
+
 class Command:
     """One command: the text that is sent, its range in the file, and for places in the text the places in the file.
 
-    Of the marks (in text, in file) the first one is at 0; from each to the next one, places run side by side.
+    Of the marks (in text, in file) the first one is at 0; from each to the next one, places run side by side. `word` is the first word or the empty
+    string, and `name` the second one: of `g`, `deftac`, `import` and the `new_` commands, the name that it is about.
     """
 
-    text: str
-    start: int
-    end: int
-    marks: Tuple[Tuple[int, int], ...]
+    __slots__ = ("text", "start", "end", "marks", "word", "name")
+
+    def __init__(self, text: str, start: int, end: int, marks: Marks) -> None:
+        self.text, self.start, self.end, self.marks = text, start, end, marks
+        self.word, self.name = _words(text)
+
+    def moved(self, by: int) -> "Command":
+        """The same command, so many places behind."""
+        marks = self.marks
+        moved = ((0, marks[0][1] + by),) if len(marks) == 1 else tuple([(in_text, in_file + by) for in_text, in_file in marks])
+        return Command(self.text, self.start + by, self.end + by, moved)
 
     def place(self, offset: int) -> int:
         """The place in the file of a place in the text, which may be the text's length."""
@@ -88,16 +98,6 @@ class Command:
         """Whether what the command makes is the user's: not so of what only serves the other commands of a package."""
         return True
 
-    @property
-    def word(self) -> str:
-        """The command's first word, or the empty string."""
-        return _words(self.text)[0]
-
-    @property
-    def name(self) -> str:
-        """The command's second word: of `g`, `deftac`, `import` and the `new_` commands, the name that it is about."""
-        return _words(self.text)[1]
-
 
 @lru_cache(REMEMBERED)
 def _words(text: str) -> Tuple[str, str]:
@@ -120,11 +120,15 @@ class Blemish:
 
 @dataclass(frozen=True)
 class Cut:
-    """A file cut into its commands, with the ranges of its outermost comments."""
+    """A file cut into its commands, with the ranges of its outermost comments.
+
+    `pieces` are what it is cut into: each place behind a `;;` that ends one, with how many commands, comments and blemishes stand before it.
+    """
 
     commands: List[Command]
     comments: List[Tuple[int, int]]
     blemishes: List[Blemish]
+    pieces: List[Tuple[int, int, int, int]] = field(default_factory=list)
 
 
 class _Piece(NamedTuple):
@@ -133,34 +137,53 @@ class _Piece(NamedTuple):
     start: int
     end: int
     comments: Tuple[Tuple[int, int], ...]
-    is_ended: bool
 
 
-def cut(text: str) -> Cut:
-    """The commands of a file. What stands behind an unclosed comment's beginning belongs to the comment."""
-    pieces, unclosed = _pieces(text)
-    commands: List[Command] = []
-    blemishes: List[Blemish] = []
-    if unclosed >= 0:
-        blemishes.append(Blemish(unclosed, unclosed + 2, "this comment is never closed: end it by `*)`", True))
-    for piece in pieces:
-        command = _command(text, piece)
-        if command is not None:
-            commands.append(command)
-        elif piece.is_ended:
-            blemishes.append(Blemish(piece.end, piece.end + 2, "no command stands before this `;;`", False))
-    last = _command(text, pieces[-1])
-    if last is not None and not pieces[-1].is_ended and unclosed < 0:
-        blemishes.append(Blemish(last.end - 1, last.end, "the last command lacks its `;;`", False))
-    return Cut(commands, [comment for piece in pieces for comment in piece.comments], blemishes)
+def cut(text: str, old_text: str = "", old: Optional[Cut] = None) -> Cut:
+    """The commands of a file. What stands behind an unclosed comment's beginning belongs to the comment.
+
+    Of a text that was another one before, what stands in both from the beginning up to a `;;`, or from one to the end, is cut as it was.
+    """
+    kept = _kept(text, old_text, old) if old is not None else _NOTHING
+    _, *before = kept.head
+    made = Cut(*(part[:number] for part, number in zip((old.commands, old.comments, old.blemishes), before)), old.pieces[:kept.pieces]) if old else Cut([], [], [])
+    opened = _cut_between(text, made, kept)
+    if opened is None:
+        _take_tail(made, old, kept)
+    else:
+        _cut_last(text, made, *opened)
+    return made
 
 
-def _pieces(text: str) -> Tuple[List[_Piece], int]:
-    """The pieces between the marks, the last one unended; and where the unclosed comment begins, or -1."""
-    pieces: List[_Piece] = []
+class _Kept(NamedTuple):
+    """What of an old cut stays: so many pieces, up to `head`; and from which places behind a `;;` in the new text on, so many places `by` behind the old
+    one, all is as it was there: the numbers of the pieces by these places."""
+
+    head: Tuple[int, int, int, int]
+    pieces: int
+    tails: Dict[int, int]
+    by: int
+
+
+_NOTHING = _Kept((0, 0, 0, 0), 0, {}, 0)
+
+
+def _kept(text: str, old_text: str, old: Cut) -> _Kept:
+    """What of an old cut stays where the text has changed."""
+    head, tail = ends(old_text, text)
+    by = len(text) - len(old_text)
+    places = [end for end, _, _, _ in old.pieces]
+    number = bisect_right(places, head)
+    first = max(number, bisect_left(places, len(old_text) - tail))
+    return _Kept(old.pieces[number - 1] if number else _NOTHING.head, number, {places[at] + by: at for at in range(first, len(places))}, by)
+
+
+def _cut_between(text: str, made: Cut, kept: _Kept) -> Optional[Tuple[int, int, List[Tuple[int, int]]]]:
+    """Cuts what stands behind the head, up to a tail that stays: None. Where there is none, answers where the last piece begins, where the unclosed
+    comment in it begins or -1, and its comments."""
     comments: List[Tuple[int, int]] = []
-    depth, start, opened = 0, 0, 0
-    for mark in _MARKS.finditer(text):
+    depth, start, opened = 0, kept.head[0], 0
+    for mark in _MARKS.finditer(text, start):
         kind = mark.group()
         if kind == "(*":
             opened = opened if depth else mark.start()
@@ -170,12 +193,48 @@ def _pieces(text: str) -> Tuple[List[_Piece], int]:
             if not depth:
                 comments.append((opened, mark.end()))
         elif kind == ";;" and not depth:
-            pieces.append(_Piece(start, mark.start(), tuple(comments), True))
+            _take_piece(text, made, _Piece(start, mark.start(), tuple(comments)))
             comments, start = [], mark.end()
+            if start in kept.tails:
+                return None
     if depth:
         comments.append((opened, len(text)))
-    pieces.append(_Piece(start, len(text), tuple(comments), False))
-    return pieces, opened if depth else -1
+    return start, opened if depth else -1, comments
+
+
+def _take_piece(text: str, made: Cut, piece: _Piece) -> None:
+    """Takes a piece that a `;;` ends."""
+    command = _command(text, piece)
+    if command is not None:
+        made.commands.append(command)
+    else:
+        made.blemishes.append(Blemish(piece.end, piece.end + 2, "no command stands before this `;;`", False))
+    made.comments.extend(piece.comments)
+    made.pieces.append((piece.end + 2, len(made.commands), len(made.comments), len(made.blemishes)))
+
+
+def _take_tail(made: Cut, old: Cut, kept: _Kept) -> None:
+    """Takes what stands behind the last piece from the old cut."""
+    (last, *now), by = made.pieces[-1], kept.by
+    number = kept.tails[last]
+    _, *was = old.pieces[number]
+    made.commands.extend([command.moved(by) for command in old.commands[was[0]:]] if by else old.commands[was[0]:])
+    made.comments.extend((start + by, end + by) for start, end in old.comments[was[1]:])
+    made.blemishes.extend(Blemish(one.start + by, one.end + by, one.text, one.is_error) for one in old.blemishes[was[2]:])
+    more = [new - old for new, old in zip(now, was)]
+    made.pieces.extend([(end + by, commands + more[0], comments + more[1], blemishes + more[2]) for end, commands, comments, blemishes in old.pieces[number + 1:]])
+
+
+def _cut_last(text: str, made: Cut, start: int, unclosed: int, comments: List[Tuple[int, int]]) -> None:
+    """Takes the last piece, which no `;;` ends."""
+    last = _command(text, _Piece(start, len(text), tuple(comments)))
+    made.comments.extend(comments)
+    if last is not None:
+        made.commands.append(last)
+    if unclosed >= 0:
+        made.blemishes.append(Blemish(unclosed, unclosed + 2, "this comment is never closed: end it by `*)`", True))
+    elif last is not None:
+        made.blemishes.append(Blemish(last.end - 1, last.end, "the last command lacks its `;;`", False))
 
 
 def _command(text: str, piece: _Piece) -> Optional[Command]:

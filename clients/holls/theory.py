@@ -3,7 +3,7 @@
 from __future__ import annotations
 
 from dataclasses import dataclass, field
-from typing import Any, Dict, Iterable, List, Optional, Sequence, Set, Tuple, Union
+from typing import Dict, Iterable, List, Optional, Sequence, Set, Tuple, Union
 
 from holls import protocol
 from holls.difference import INSERT, REMOVE, Edit, difference, middle
@@ -50,36 +50,56 @@ class Theory:
     edits: int = 0
     _befores: List[Before] = field(default_factory=list)
     _walk: Optional[Walk] = None
+    _is_revealed: bool = False
+    _seen: int = 0
 
     @property
     def frontier(self) -> int:
         """Up to which place reports have to be asked for. Those below may still turn out to be what they were before an edit."""
         return self._walk.frontier if self._walk else len(self.entries)
 
+    @property
+    def is_settled(self) -> bool:
+        """Whether all is known, and nothing has changed since `settle` saw that."""
+        return bool(self._befores) and self._walk is None and not self._is_revealed
+
     def settle(self) -> None:
         """Takes notice of reports that have come: of some others it is known now that an edit didn't change them."""
         if self._walk:
             self._walk.go()
-        if self.frontier == len(self.entries) and (self._walk or not self._befores) and all_known(self.entries):
+        if self.is_settled or self.frontier < len(self.entries) or not self._is_all_known():
+            return
+        if self._walk or not self._befores:
             self._befores, self._walk = [Before(self.entries)] + self._befores[:BEFORES - 1], None
+        self._is_revealed = False
+
+    def _is_all_known(self) -> bool:
+        """Whether all is known. From the first command on: those of which something is known needn't be looked at again."""
+        entries, most = self.entries, len(self.entries)
+        while self._seen < most and (entries[self._seen].report is not None or entries[self._seen].is_hidden):
+            self._seen += 1
+        return self._seen == most and all_known(entries)
 
     def want(self, texts: Sequence[Tuple[str, bool]]) -> None:
         """Takes new commands, each with whether it is hidden. What is known above the first change stays."""
-        start = middle([entry.text for entry in self.entries], [text for text, _ in texts]).start
+        now = [text for text, _ in texts]
+        start = middle([entry.text for entry in self.entries], now).start
         for entry, (_, is_hidden) in zip(self.entries[:start], texts):
+            if entry.is_hidden and not is_hidden:
+                self._is_revealed, self._seen = True, 0  # Of a hidden one nothing was asked.
             entry.is_hidden = is_hidden
         if start == max(len(self.entries), len(texts)):
             return
         self.edits += 1
         self.entries[start:] = [Entry(text, is_hidden) for text, is_hidden in texts[start:]]
-        now = [entry.text for entry in self.entries]
+        self._seen = min(self._seen, start)
         before = next((one for one in self._befores if one.texts == now), next(iter(self._befores), None))
         self._walk = Walk(before, self.entries) if before else None
 
     def forget(self, start: int) -> None:
         """Forgets what is known from a place on."""
         self.edits += 1
-        self._befores, self._walk = [], None
+        self._befores, self._walk, self._seen = [], None, min(self._seen, start)
         self.entries[start:] = [Entry(entry.text, entry.is_hidden) for entry in self.entries[start:]]
 
 
@@ -98,10 +118,9 @@ class Change:
 
     def line(self) -> bytes:
         """The request's line."""
-        keys: Dict[str, Any] = {"op": self.op, "theory": self.theory, "at": self.at, "text": self.text}
         if self.op in (NEW, DROP):
-            keys = {"op": self.op, "name": self.theory, "at": self.at}
-        return protocol.line(keys)
+            return protocol.line({"op": self.op, "name": self.theory, "at": self.at})
+        return protocol.edit(self.op, self.theory, self.at, self.text)
 
 
 class Standing:
@@ -111,15 +130,20 @@ class Standing:
         self.theories: List[Tuple[str, List[str]]] = []
         self.seconds = 0.0
         self._seconds: Dict[str, List[float]] = {}
+        self._same: Dict[str, Tuple[Theory, int]] = {}
+        self._by_name: Dict[str, List[str]] = {}
 
     def apply(self, change: Change, seconds: float = 0.0) -> None:
         """Takes a change that the server carried out in so many seconds. They count where they were spent on its own command alone."""
+        self._same.pop(change.theory, None)
         if change.op == NEW:
-            self.theories.insert(change.at, (change.theory, []))
+            self._by_name[change.theory] = []
+            self.theories.insert(change.at, (change.theory, self._by_name[change.theory]))
             self._seconds[change.theory] = []
         elif change.op == DROP:
             self.theories = [theory for theory in self.theories if theory[0] != change.theory]
             self.seconds -= sum(self._seconds.pop(change.theory))
+            del self._by_name[change.theory]
         else:
             self._count(change, seconds)
             Edit(change.op, change.at, change.text).apply(self._texts(change.theory))
@@ -134,7 +158,11 @@ class Standing:
             self.seconds -= took.pop(change.at)
 
     def _texts(self, name: str) -> List[str]:
-        return next((texts for standing, texts in self.theories if standing == name), [])
+        return self._by_name.get(name, [])
+
+    def look_again(self) -> None:
+        """A command is left out from now on: what stood as it was wanted may not."""
+        self._same.clear()
 
     def seconds_before(self, change: Change) -> float:
         """How long it took to run what stands before a change's command."""
@@ -172,9 +200,13 @@ class Standing:
         made = _made(list(kept), wanted)
         edits: List[Change] = []
         for theory in wanted:
+            if theory.name in kept and self._same.get(theory.name) == (theory, theory.edits):
+                continue
             more = difference(kept.get(theory.name, []), [entry.sent for entry in theory.entries], served)
             if more is None:
                 return None
+            if not more and theory.name in kept:
+                self._same[theory.name] = theory, theory.edits
             edits += [Change(edit.op, theory.name, edit.at, edit.text) for edit in more]
         return dropped + made + edits
 

@@ -16,7 +16,7 @@ _FIXED = {
     protocol.BAD_RULE: "%s doesn't fit what it is given",
     protocol.HYPOTHESES: "%s was given a theorem with a hypothesis that is none of the goal's assumptions",
     protocol.NO_GOAL: "no goal is left here: end the proof by qed;;",
-    protocol.TURN_LIMIT: "the turn limit was reached: a function doesn't end (rewriting? ONCE_REWRITE_TAC, or SUBST1_TAC at an instance), or "
+    protocol.TURN_LIMIT: "the turn limit was reached: a tactic doesn't end (rewriting? ONCE_REWRITE_TAC, or SUBST1_TAC at an instance), or "
                          "takes more turns than a step has: split it into several e",
     protocol.GOALS_REMAIN: "the proof isn't done: goals remain",
     protocol.NOTHING_TO_UNDO: "nothing to undo: the proof is at its beginning",
@@ -43,8 +43,8 @@ _OF_COMMANDS = {
 }
 """What some commands' refusals say."""
 
-_RECURSIVE = ("%s stands on its own right side: a definition can't be recursive; a function on numbers or lists takes num_REC or list_REC "
-              "(theories/README.md, Definitions by recursion)")
+_RECURSIVE = ("%s stands on its own right side: new_definition can't be recursive; define makes functions by clauses, behind import packages "
+              "(docs/PACKAGES.md)")
 """What refusal 11 says of a definition's own constant, which is free on the right."""
 
 _ARGUMENT = re.compile(r"\s*([`(\[]|(?!(THEN|THENL|ORELSE)(?![A-Za-z0-9_']))[A-Za-z_])")
@@ -106,7 +106,7 @@ def rests(items: Sequence[str]) -> str:
 def _key(argument: str) -> str:
     """A key as `thm:N` in words."""
     kind, _, name = argument.partition(":")
-    return "%s %s" % ({"thm": "the theorem", "const": "the constant", "type": "the type", "tac": "the function on goals"}.get(kind, kind), name)
+    return "%s %s" % ({"thm": "the theorem", "const": "the constant", "type": "the type", "tac": "the tactic"}.get(kind, kind), name)
 
 
 def _place(text: str, refusal: Refusal) -> int:
@@ -164,15 +164,17 @@ def _unknown_tac(text: str, name: str, start: int) -> str:
                     "argument is a theorem%s" % (handing, name, takes, handing, _by_assumptions(name)))
         return "%s takes %s" % (name, takes)
     if name in notation.FORWARD:
-        return "%s makes a theorem and is no function on goals: write ACCEPT_TAC (%s ..), MP_TAC (%s ..) or the like" % (name, name, name)
+        return "%s makes a theorem and is no tactic: write ACCEPT_TAC (%s ..), MP_TAC (%s ..) or the like" % (name, name, name)
     if name in notation.ELSEWHERE:
         instead = notation.ELSEWHERE[name]
-        return "HOL Light's %s isn't here%s" % (name, ": " + instead if instead else "; docs/TACTICS.md lists the functions on goals that are")
+        return "HOL Light's %s isn't here%s" % (name, ": " + instead if instead else "; docs/TACTICS.md lists the tactics that are")
+    if name in notation.SEARCHES:
+        return "%s is no step of a proof: %s" % (name, notation.SEARCHES[name])
     near = notation.near(name, notation.TACS)
     meant = "; did you mean %s?" % near if near else ""
-    if any(_ARGUMENT.match(text, end) or _handing(text, first) for first, end in _uses(text, name)):
-        return "no function on goals %s takes arguments: what deftac names takes none%s" % (name, meant)
-    return "there is no function on goals %s%s" % (name, meant)
+    if not near and any(_ARGUMENT.match(text, end) or _handing(text, first) for first, end in _uses(text, name)):
+        return "no tactic %s takes arguments: what deftac names takes none" % name
+    return "there is no tactic %s%s" % (name, meant)
 
 
 def _handing(text: str, start: int) -> Optional[str]:
@@ -199,7 +201,7 @@ _FITS = {
     "SPEC_TAC": "a variable of the term's type that isn't free in the goal, unless it is the term",
     "DISCH_THEN": "p ==> q or ~p", "POP_ASSUM": "a goal with an assumption", "FIRST_ASSUM": "an assumption that its function takes",
 }
-"""What functions on goals and tacticals want, where they refuse some goals."""
+"""What tactics and tacticals want, where they refuse some goals."""
 
 _RULES = {
     "ASSUME": "a term of type bool: annotate what leaves its type open, as p:bool or (P:A->bool) x", "REFL": "a term",

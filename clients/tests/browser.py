@@ -46,7 +46,20 @@ class Browser:
         asked = http.client.HTTPConnection("127.0.0.1", self.port, timeout=SECONDS)
         asked.request("PUT", "/json/new?about:blank")
         target = json.loads(asked.getresponse().read())
-        page = Page(self.port, target["webSocketDebuggerUrl"].split(str(self.port), 1)[1])
+        return self._begun(target["webSocketDebuggerUrl"].split(str(self.port), 1)[1], address, width, height)
+
+    def apart(self, address, width=1200, height=800):
+        """Opens an address as another person's browser does: cookies and all that is kept are its own."""
+        asked = http.client.HTTPConnection("127.0.0.1", self.port, timeout=SECONDS)
+        asked.request("GET", "/json/version")
+        path = json.loads(asked.getresponse().read())["webSocketDebuggerUrl"].split(str(self.port), 1)[1]
+        self.control = Page(self.port, path)
+        context = self.control.call("Target.createBrowserContext")["browserContextId"]
+        target = self.control.call("Target.createTarget", url="about:blank", browserContextId=context)["targetId"]
+        return self._begun("/devtools/page/" + target, address, width, height)
+
+    def _begun(self, path, address, width, height):
+        page = Page(self.port, path)
         page.call("Page.enable")
         page.call("Runtime.enable")
         page.call("Emulation.setDeviceMetricsOverride", width=width, height=height, deviceScaleFactor=1, mobile=width < 500)

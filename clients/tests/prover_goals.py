@@ -1,23 +1,27 @@
-"""How many of HOL Light's statements are found, and how soon: `python3 clients/tests/prover_goals.py [--all] [--named] [--missed] [KIND..]`.
+"""How many of HOL Light's statements are found, and how soon: `python3 clients/tests/prover_goals.py [--named] [--missed] [KIND..]`.
 
 goals/hol_light.tsv has the statements, each with the one step that proves it in HOL Light's library. A theorem that says what a goal says, by
-whatever name, isn't there while the goal is searched. Each proof that is found is run by the program, `qed` included, and timed with it.
+whatever name, isn't there while the goal is searched. Each proof that is found is run by the program, `qed` included, and timed with it: by the time
+of the processor, so that other work changes nothing.
 """
 
 import argparse
+import functools
+import multiprocessing
+import os
 import pathlib
 import sys
 import time
-from typing import Dict, List, NamedTuple, Optional, Sequence
+from typing import Dict, Iterator, List, NamedTuple, Optional, Sequence, Tuple
 
 if __name__ == "__main__":
     sys.path.insert(0, str(pathlib.Path(__file__).resolve().parents[1]))
 
 from holls import check  # noqa: E402
 from holls.files import File  # noqa: E402
-from holls.protocol import Goals, Made  # noqa: E402
+from holls.protocol import Error, Goals, Made  # noqa: E402
 from holls.prover import clock, reading, scope, typed  # noqa: E402
-from holls.prover.asking import Asker  # noqa: E402
+from holls.prover.asking import Asker, Silent  # noqa: E402
 from holls.prover.finder import Finder  # noqa: E402
 from holls.prover.knowledge import Knowledge  # noqa: E402
 from tests.helpers import BUILT, CLIENTS, ROOT  # noqa: E402
@@ -28,7 +32,22 @@ WORDS = frozenset(("GSYM", "CONJUNCT1", "CONJUNCT2", "SPEC", "SPEC_ALL", "EQT_IN
 """Words in HOL Light's lists that name no theorem of a library."""
 SAMPLED = 6
 """The sample has each goal of a kind whose place is a multiple of this."""
-SECONDS = 5.0
+SECONDS, SHORT_SECONDS = 5.0, 2.0
+"""So long a search may take; and where all goals are searched."""
+
+
+class Share(NamedTuple):
+    """How many goals of a kind are found, and whether with the theorems that HOL Light's step names."""
+
+    kind: str
+    is_named: bool
+    least: float
+
+
+SHARES = (Share("ARITH", False, 0.95), Share("TAUT", False, 0.95), Share("MESON", True, 0.85), Share("MESON", False, 0.6), Share("SET", False, 0.8),
+          Share("SIMP", True, 0.7), Share("REWRITE", True, 0.7))
+MIDDLE_SECONDS, LATE_SECONDS = 0.3, 2.0
+"""In so many seconds half of all that are found are found, and 95 %."""
 
 
 class Stated(NamedTuple):
@@ -57,13 +76,17 @@ def stored(kinds: Sequence[str] = KINDS, is_all: bool = True) -> List[Stated]:
     return [goal for kind in kinds for goal in found[kind][::1 if is_all else SAMPLED]]
 
 
+@functools.lru_cache(1)
 def theories() -> List[File]:
-    """The library's files, each behind those that it imports."""
+    """The library's files, each behind those that it imports. Nobody changes them."""
     return [file for found in check.ordered([str(ROOT / "theories")]).values() for file in found]
 
 
 class Library:
     """All theories in one server, and a copy behind them in which goals are tried."""
+
+    seconds = SECONDS
+    """So long a search may take."""
 
     def __init__(self) -> None:
         self.asker = Asker([str(BUILT)], 120.0)
@@ -81,6 +104,18 @@ class Library:
         """Ends the server."""
         self.asker.stop()
 
+    def is_as_made(self) -> bool:
+        """Whether the copy has what it had at first, and the server's next replies are those to the next questions."""
+        try:
+            replies = [self.asker.report(at) for at in (self.count - 1, self.count)]
+        except Silent:
+            return False
+        return self.asker.count == self.count and [type(one) for one in replies] == [Made, Error]
+
+    def spent(self) -> float:
+        """The searches' clock; with the program's time where it is the processor's."""
+        return clock.now() + (self.asker.processor_seconds() if clock.is_processor() else 0.0)
+
     def withheld(self, term: typed.Term) -> scope.Scope:
         """What stands, but for what says what a goal says, or its equation turned round."""
         wanted = _core(term)
@@ -90,7 +125,7 @@ class Library:
         """Whether each theorem that a goal's step names stands here."""
         return all(name in self.scope.theorems or name in WORDS for name in goal.named)
 
-    def prove(self, goal: Stated, is_named: bool, seconds: float = SECONDS) -> Result:
+    def prove(self, goal: Stated, is_named: bool, seconds: Optional[float] = None) -> Result:
         """Searches a proof of a goal, by the theorems that are named where that is said."""
         term = reading.term(goal.text, self.scope.signature, ty=typed.BOOL)
         standing = self.withheld(term)
@@ -98,15 +133,28 @@ class Library:
         assert isinstance(report, Goals), goal.text
         named = [name for name in goal.named if name in standing.theorems]
         known = Knowledge(standing)
-        begun = clock.now()
-        found = Finder(self.asker, standing, report, goal.text, begun + seconds, known).find(named if is_named and named else None)
+        begun = self.spent()
+        found = Finder(self.asker, standing, report, goal.text, clock.now() + (seconds or self.seconds), known).find(named if is_named and named else None)
         if found:
             for step in found:
                 self.asker.step(step)
             assert isinstance(self.asker.step("qed"), Made), (goal.text, found)
-        taken = clock.now() - begun
+        taken = self.spent() - begun
         self.asker.back(self.count)
         return Result(goal, found, taken)
+
+
+_SHARED: List[Library] = []
+
+
+def shared() -> Library:
+    """The library that the tests of a process share, since it takes ten times as long to make as most goals take. One that a test has left otherwise than
+    it was is made anew."""
+    if _SHARED and not _SHARED[0].is_as_made():
+        _SHARED.pop().stop()
+    if not _SHARED:
+        _SHARED.append(Library())
+    return _SHARED[0]
 
 
 def _core(term: typed.Term) -> typed.Term:
@@ -133,45 +181,83 @@ def _renamed(term: typed.Term, names: Dict[str, str]) -> typed.Term:
     return ("v", names[term[1]], term[2]) if term[0] == "v" else term
 
 
-def table(results: Sequence[Result]) -> str:
-    """A line for each kind: how many are found, in which share, and the times of those."""
-    lines = []
-    for kind in KINDS:
-        own = [one for one in results if one.goal.kind == kind]
-        times = sorted(one.seconds for one in own if one.steps)
-        if own:
-            middle, late = (times[len(times) // 2], times[int(len(times) * 0.95)]) if times else (0.0, 0.0)
-            lines.append("%-8s %3d of %3d %3.0f %%, median %.2f s, 95 %% within %.2f s" % (
-                kind, len(times), len(own), 100.0 * len(times) / len(own), middle, late))
-    return "\n".join(lines)
+def of_share(share: Share, results: Sequence[Result]) -> str:
+    """A line for a share: how many are found, and the times of those."""
+    middle, late = times(results)
+    found = sum(bool(one.steps) for one in results)
+    return "%-8s %s %3d of %3d, %3.0f %% (%2.0f wanted), median %.2f s, 95 %% within %.2f s" % (
+        share.kind, "named  " if share.is_named else "unnamed", found, len(results), 100.0 * found / len(results), 100 * share.least, middle, late)
+
+
+def times(results: Sequence[Result]) -> Tuple[float, float]:
+    """In how many seconds half of what is found is found, and 95 %."""
+    found = sorted(one.seconds for one in results if one.steps) or [0.0]
+    return found[len(found) // 2], found[int(len(found) * 0.95)]
+
+
+LIBRARY: List[Library] = []
+"""A process's own."""
+
+
+def begin(seconds: float) -> None:
+    """Has the library stand in a process, in which a search has so many seconds."""
+    clock.use(time.process_time)
+    LIBRARY.append(Library())
+    LIBRARY[0].seconds = seconds
+
+
+def search(job: Tuple[int, Stated]) -> Tuple[int, Optional[Result]]:
+    """What comes of a goal of a share; None where the step names a theorem that isn't here. A goal at which the program falls silent isn't found."""
+    at, goal = job
+    is_named = SHARES[at].is_named
+    if is_named and not LIBRARY[0].has_named(goal):
+        return at, None
+    try:
+        return at, LIBRARY[0].prove(goal, is_named)
+    except Silent:
+        seconds = LIBRARY[0].seconds
+        LIBRARY.pop().stop()
+        begin(seconds)
+        return at, Result(goal, None, seconds)
+
+
+def searched(shares: Sequence[int], processes: int, seconds: float) -> Iterator[Tuple[int, Result]]:
+    """The results of the goals of shares, by so many processes, in so many seconds each."""
+    jobs = [(at, goal) for at in shares for goal in stored([SHARES[at].kind])]
+    with multiprocessing.Pool(processes, begin, (seconds,)) as pool:
+        for at, result in pool.imap_unordered(search, jobs):
+            if result is not None:
+                yield at, result
 
 
 def main() -> int:
-    """Writes the table, and what isn't found where that is asked."""
+    """Writes a line for each share, and what isn't found where that is asked. The status is 1 where a share or a time isn't met."""
     parser = argparse.ArgumentParser(description=__doc__.split("\n", 1)[0])
-    parser.add_argument("kinds", nargs="*", default=list(KINDS))
-    parser.add_argument("--all", action="store_true")
-    parser.add_argument("--named", action="store_true", help="with the theorems that HOL Light's step names, where these stand")
-    parser.add_argument("--missed", action="store_true")
-    parser.add_argument("--steps", action="store_true")
-    parser.add_argument("--processor", action="store_true", help="by the time of the processor, without the program's")
+    parser.add_argument("kinds", nargs="*", help="of " + ", ".join(KINDS))
+    parser.add_argument("--named", action="store_true", help="the shares alone with the theorems that HOL Light's step names")
+    parser.add_argument("--unnamed", action="store_true", help="the shares alone without them")
+    parser.add_argument("--missed", action="store_true", help="writes what isn't found")
+    parser.add_argument("--steps", action="store_true", help="writes what is found")
+    parser.add_argument("--jobs", type=int, default=os.cpu_count() or 1, help="so many processes")
+    parser.add_argument("--seconds", type=float, default=SHORT_SECONDS, help="so long a search may take (%g)" % SHORT_SECONDS)
     given = parser.parse_args()
-    if given.processor:
-        clock.use(time.process_time)
-    library = Library()
-    results = []
-    for goal in stored(given.kinds or KINDS, given.all):
-        if given.named and not library.has_named(goal):
-            continue
-        result = library.prove(goal, given.named)
-        results.append(result)
+    shares = [at for at, one in enumerate(SHARES) if (not given.kinds or one.kind in given.kinds) and not (given.unnamed if one.is_named else given.named)]
+    results: Dict[int, List[Result]] = {at: [] for at in shares}
+    begun = time.monotonic()
+    for at, result in searched(shares, given.jobs, given.seconds):
+        results[at].append(result)
         if given.missed and not result.steps:
-            print("%.1f %s [%s]" % (result.seconds, goal.text, " ".join(goal.named)), flush=True)
+            print("%s %.1f %s [%s]" % (result.goal.kind, result.seconds, result.goal.text, " ".join(result.goal.named)), flush=True)
         if given.steps and result.steps:
-            print("%.2f %s\n    %s" % (result.seconds, goal.text, "\n    ".join(result.steps)), flush=True)
-    print(table(results))
-    library.stop()
-    return 0
+            print("%s %.2f %s\n    %s" % (result.goal.kind, result.seconds, result.goal.text, "\n    ".join(result.steps)), flush=True)
+    every = [one for found in results.values() for one in found]
+    middle, late = times(every)
+    print("\n".join(of_share(SHARES[at], found) for at, found in results.items()))
+    few = [at for at, found in results.items() if sum(bool(one.steps) for one in found) < SHARES[at].least * len(found)]
+    is_slow = middle > MIDDLE_SECONDS or late > LATE_SECONDS
+    print("shares: %d goals, %d passed, %d failed; all found in %.2f s in the median, 95 %% within %.2f s; %.0f s" % (
+        len(every), len(shares) - len(few), len(few) + is_slow, middle, late, time.monotonic() - begun))
+    return 1 if few or is_slow else 0
 
 
 if __name__ == "__main__":

@@ -1,6 +1,8 @@
-"""Random packages, all of which the program has to accept: types, functions by clauses and by measures, relations."""
+"""Random packages, all of which the program has to accept: types, functions by clauses and by measures, relations, records, specifications."""
 
 import random
+
+from holls.findings import Severity, findings
 
 RESTS = ("num", "bool", "num", "(num list)", "(num#bool)", "(num option)", "(num->bool)")
 KINDS = ("type", "function", "numbers", "matrix", "measure", "relation")
@@ -18,9 +20,9 @@ class Declarations:
         self.count += 1
         return "%s%d" % (prefix, self.count)
 
-    def some(self, number):
-        """So many declarations, each a list of commands."""
-        return [getattr(self, KINDS[at % len(KINDS)])() for at in range(number)]
+    def some(self, number, kinds=KINDS):
+        """So many declarations of some kinds in turn, each a list of commands."""
+        return [getattr(self, kinds[at % len(kinds)])() for at in range(number)]
 
     # ---- Types
 
@@ -53,6 +55,26 @@ class Declarations:
     def type(self):
         """A type."""
         return [self.declared(*self.constructors())]
+
+    def record(self):
+        """A record, or one with a parameter."""
+        pick, fields = self.random, []
+        for _ in range(pick.choice((1, 1, 2, 2, 3, 4))):
+            fields.append("%s:%s" % (self.name("field"), pick.choice(RESTS + ("A", "(A list)"))))
+        return ["record %s = %s %s" % (self.name("rec"), self.name("C"), " ".join(fields))]
+
+    VALUES = {"num": ("0", "7", "SUC n"), "bool": ("T", "F"), "num list": ("[]", "[1; 2]"), "A->A": ("\\x. x",)}
+
+    def specification(self):
+        """Constants by what is proved to exist."""
+        every = self.random.choice((["A->A"], ["num", "bool", "num list"]))  # A type variable has to be in each constant's type.
+        types = [self.random.choice(every) for _ in range(self.random.choice((1, 1, 2, 3)))]
+        values = ["(%s):%s" % (self.random.choice(self.VALUES[one]).replace("SUC n", "SUC 4"), one) for one in types]
+        exist, bound = self.name("EXIST"), [self.name("x") for _ in types]
+        said = " /\\ ".join("%s = (%s)" % pair for pair in zip(bound, values))
+        proof = " THEN ".join("EXISTS_TAC `%s`" % one for one in values) + " THEN REWRITE_TAC []"
+        return ["g %s `?%s. %s`" % (exist, " ".join(bound), said), "e " + proof, "qed",
+                "specification %s %s %s" % (self.name("SAID"), " ".join(self.name("c") for _ in types), exist)]
 
     # ---- Functions
 
@@ -174,3 +196,37 @@ class Declarations:
             return "ALL (\\w. %s) [x; 1]" % inner
         rest = self.asked(relations, parameter, variables, depth - 1)
         return "(if x = 0 then %s else %s)" % (rest, inner.replace("w", "x")) if chance < 0.94 else "(x < 3 ==> %s)" % rest
+
+
+def text(declarations):
+    """Declarations as the text of a file."""
+    return "".join(command + ";;\n" for commands in declarations for command in commands)
+
+
+def corrected(declarations, read):
+    """Declarations without the clauses that aren't reached, and without those that are told to be wrong, as one with a type variable that can't be
+    guessed; these; and the file that `read` makes of the text of the others."""
+    declarations, wrong = list(declarations), []
+    while True:
+        file = read(text(declarations))
+        errors = [one for one in findings(file) if one.severity == Severity.ERROR]
+        if not errors:
+            return declarations, wrong, file
+        whole, at = file.lines.text, len(file.lines.text) - len(text(declarations))
+        kept = []
+        for commands in declarations:
+            end = at + len(text([commands]))
+            told = next((one for one in errors if at <= one.start < end), None)
+            if told is None or "no argument reaches" in told.text:
+                kept.append(commands if told is None else _without(commands, whole[told.start:told.end]))
+            else:
+                wrong.append((commands, told.text))
+            at = end
+        declarations = kept
+
+
+def _without(commands, head):
+    """Commands of a function without the clause of this left side."""
+    parts = commands[-1].split("`")
+    parts[-2] = " /\\ ".join(one for one in parts[-2].split(" /\\ ") if not one.startswith(head))
+    return commands[:-1] + ["`".join(parts)]

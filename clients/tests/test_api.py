@@ -295,6 +295,24 @@ class OverTheProgram(unittest.TestCase):
         self.assertEqual(theorem.basis, self.lists.basis("LENGTH_APPEND"))
         self.assertIn("def:APPEND", theorem.basis)
 
+    def test_a_theorem_by_the_name_of_its_constant_is_proved_below_the_definition(self):
+        pairs = Project(self.prover, str(ROOT / "theories" / "pairs.hol")).theory("pairs")
+        self.assertIn("FST", pairs.statements)
+        state = pairs.proof("FST").state
+        self.assertEqual(state.goal.free, ())
+        self.assertIn("FST_DEF", [one.name for one in state.proof.theory.known])
+
+    def test_a_proof_is_found_as_holls_prove_finds_it(self):
+        begun = self.project.text("import logic;;", "Mine").prove("N", "p /\\ q ==> q /\\ (p \\/ r)").state
+        found = begun.find(PATIENT)
+        self.assertTrue(found.is_proved and found.qed(), found)
+        self.assertIs(found.find(), found)
+        refused = self.project.text("", "Mine").prove("N", "p ==> q").state.find(2.0)
+        self.assertFalse(refused)
+        self.assertIn("none found", refused.sentence)
+        with self.assertRaises(ProverError):
+            begun.find(2.0, ["NO_SUCH_THEOREM"])
+
     def test_nothing_below_the_place_of_a_proof_may_be_cited(self):
         state = self.lists.proof("LENGTH_APPEND").state
         names = {one.name for one in state.premises()}

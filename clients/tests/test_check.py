@@ -223,7 +223,7 @@ class Checking(unittest.TestCase):
         self.put({"proj/hol-project.json": '{"folders": ["x"]}', "proj/x/a.hol": "import b;;", "proj/x/deep/c.hol": "import a;;", "proj/y/b.hol": proofs(1),
                   "proj/y/d.hol": "import b;;", "proj/y/e.hol": "import c;;", "proj/x/.old/b.hol": proofs(1), "proj/b.hol": proofs(1)})
         folder = self.folder.resolve() / "proj"
-        wrong = {"proj/x/a.hol": "b.hol in %s/x and below" % folder, "proj/y/e.hol": "c.hol in %s/y" % folder}
+        wrong = {"proj/x/a.hol": "b.hol in %s/x and below or in the library" % folder, "proj/y/e.hol": "c.hol in %s/y or in the library" % folder}
         for paths in (["proj"], ["proj/x/a.hol", "proj/y/e.hol"], ["proj/y", "proj/x"], ["proj/b.hol", "proj/x/a.hol", "proj/y/b.hol", "proj/y/e.hol"]):
             status, lines = self.check_of(*paths)
             told = {line.split(":")[0]: line.split("no file ")[1] for line in lines if ": error: there is no file " in line}
@@ -233,7 +233,7 @@ class Checking(unittest.TestCase):
 
     def test_a_folder_with_a_project_file_of_its_own_is_no_part_of_the_project_around_it_unless_it_is_named(self):
         self.put({"np/hol-project.json": "{}", "np/in/hol-project.json": "{}", "np/in/b.hol": proofs(1), "np/a.hol": "import b;;"})
-        missing = "np/a.hol:1:1: error: there is no file b.hol in %s and below" % (self.folder.resolve() / "np")
+        missing = "np/a.hol:1:1: error: there is no file b.hol in %s and below or in the library" % (self.folder.resolve() / "np")
         accepted = "np/in/b.hol: 4 commands, 1 theorem, all accepted"
         self.assertEqual(self.check_of("np"), (1, [missing, "np/a.hol: 1 command, 0 theorems, 1 error", accepted]))
         self.assertEqual(self.check_of("np/a.hol"), (1, [missing, "np/a.hol: 1 command, 0 theorems, 1 error"]))

@@ -9,6 +9,7 @@ import unittest
 
 from holls import disk, projects, say
 from tests.helpers import HOLLS, PYTHON, SECONDS, fake, proofs
+from tests.test_lsp import Editor
 
 
 @unittest.skipUnless(hasattr(os, "mkfifo"), "there are no pipes with names")
@@ -53,7 +54,8 @@ class Folders(unittest.TestCase):
         for name in ("Pipe", "Zero", "Self", "Gone", "Folder"):
             (self.folder / "B.hol").write_text("import %s;;\n" % name)
             status, said, _ = self.holls("check", "B.hol")
-            self.assertEqual((status, said.splitlines()[0]), (1, "B.hol:1:1: error: there is no file %s.hol in %s" % (name, self.folder)))
+            self.assertEqual((status, said.splitlines()[0]), (
+                1, "B.hol:1:1: error: there is no file %s.hol in %s or in the library" % (name, self.folder) + ("; did you mean one?" if name == "Gone" else "")))
 
     def test_project_files_that_are_none(self):
         (self.folder / "A.hol").write_text(proofs(1))
@@ -81,13 +83,49 @@ class Folders(unittest.TestCase):
         (self.folder / "A.hol").write_text("import one;;\nimport nothing_of_this_name;;\n")
         _, said, _ = self.holls("check", "A.hol")
         self.assertEqual([line for line in said.splitlines() if "there is no file" in line], [
-            "A.hol:2:1: error: there is no file nothing_of_this_name.hol in %s" % self.folder.resolve()])
+            "A.hol:2:1: error: there is no file nothing_of_this_name.hol in %s or in the library" % self.folder.resolve()])
         (self.folder / "one.hol").write_text(proofs(1))  # One's own comes first.
         _, said, _ = self.holls("check", "A.hol")
         self.assertIn("\none.hol: 4 commands", "\n" + said)
         (self.folder / "one.hol").unlink()
         status, said, _ = self.holls("check", "--within", ".", "A.hol")
         self.assertIn("A.hol:1:1: error: the theory one is the library's, which lies outside of .: add --within %s" % projects.LIBRARY, said)
+
+    def test_a_file_that_has_the_name_of_a_theory_which_the_library_imports_is_told_so(self):
+        (self.folder / "sums.hol").write_text("import options;;\n" + proofs(1))
+        _, said, _ = self.holls("check", "sums.hol", "--alone")
+        lines = [line for line in said.splitlines() if line.startswith("sums.hol:1:")]
+        self.assertIn("imports go in a circle here", lines[0])
+        self.assertEqual(lines[1], "sums.hol:1:1: warning: the library has a theory sums too, which its theory options imports: this file stands in its "
+                         "place; rename it if that isn't meant")
+        (self.folder / "sums.hol").write_text(proofs(1))
+        self.assertEqual(self.holls("check", "sums.hol")[:2], (0, "sums.hol: 4 commands, 1 theorem, all accepted\n"))
+
+    def test_an_import_that_is_misspelt_says_which_was_meant(self):
+        (self.folder / "Numbers.hol").write_text(proofs(1))
+        (self.folder / "A.hol").write_text("import Number;;\nimport set;;\nimport no_such_thing;;\n")
+        _, said, _ = self.holls("check", "A.hol")
+        meant = [line.split("; ", 1)[1] if ";" in line else "" for line in said.splitlines() if line.startswith("A.hol:") and "no file" in line]
+        self.assertEqual(meant, ["did you mean Numbers?", "did you mean sets?", ""])
+
+    def test_an_editor_in_such_a_folder_goes_on(self):
+        self.fill()
+        (self.folder / "B.hol").write_text("import A;;\nimport Pipe;;\nimport Self;;\ng B `x = x`;;\ne REFL_TAC;;\nqed;;\n")
+        (self.folder / projects.PROJECT_FILE).write_text('{"folders": [".", "\\u0000"]}')
+        editor = Editor(self.program)
+        self.addCleanup(editor.kill)
+        editor.begin()
+        uri = (self.folder / "B.hol").as_uri()
+        editor.open(uri, (self.folder / "B.hol").read_text())
+        editor.until(lambda: [found[:2] for found in editor.said(uri)] == [(0, 1), (1, 1), (2, 1)])
+        self.assertEqual([one["name"] for one in editor.ask("hol/search", {"query": "N0"})], ["N0"])
+        self.assertEqual([one["name"] for one in editor.ask("workspace/symbol", {"query": "N0"})], ["N0"])
+        self.assertEqual(editor.goals(uri, 3, 2)["goals"]["goals"][0]["ty"], "x = x")
+        (self.folder / projects.PROJECT_FILE).unlink()
+        os.mkfifo(str(self.folder / projects.PROJECT_FILE))
+        editor.change(uri, 2, "import A;;\nfoo;;\n")
+        editor.until(lambda: [found[:2] for found in editor.said(uri)] == [(1, 1)])
+        self.assertEqual(editor.end(), 0)
 
     def test_within(self):
         other = self.room / "other"

@@ -13,7 +13,7 @@ import unittest
 from contextlib import redirect_stdout
 from unittest.mock import patch
 
-from holls import check, files
+from holls import check, files, sent
 from tests.helpers import BUILT, HOLLS, PYTHON, ROOT, SECONDS, fake, proofs
 
 
@@ -62,19 +62,30 @@ class Farm(unittest.TestCase):
         self.assertEqual(self.check(environment={"HOLLS_CACHE": str(self.folder / "kept")})[0], 0)
         self.assertEqual(self.asked(), set())
 
-    def test_of_what_is_remembered_no_quotation_is_read(self):
+    def test_of_what_is_remembered_no_text_is_cut_and_no_quotation_read(self):
         self.write(A="notation num Z I;;\n" + proofs(2), B="import A;;\ng B `0 = 0`;; e REFL_TAC;; qed;;")
         words = argparse.ArgumentParser()
         check.add_words(words)
         given = words.parse_args(["--server", self.program, "--cache", str(self.folder / "kept"), str(self.theories)])
         said, numbers = [], []
         for _ in range(2):
-            with patch.object(files, "Notation", wraps=files.Notation) as notation, redirect_stdout(io.StringIO()) as output:
-                self.assertEqual(check.main(given), 0)
+            with patch.object(sent, "Notation", wraps=sent.Notation) as notation, patch.object(files, "cut", wraps=files.cut) as cut:
+                with redirect_stdout(io.StringIO()) as output:
+                    self.assertEqual(check.main(given), 0)
             said.append(output.getvalue())
-            numbers.append(notation.call_count)
+            numbers.append((cut.call_count, notation.call_count))
         self.assertEqual(said[1], said[0])
-        self.assertEqual(numbers, [2, 0])
+        self.assertEqual(numbers, [(2, 2), (0, 0)])
+
+    def test_a_spoilt_outline_is_made_again(self):
+        self.write(A=proofs(1), B="import A;;")
+        first = self.check("--cache", "kept")
+        outlines = list((self.folder / "kept").glob("*/*.outline"))
+        self.assertEqual(len(outlines), 2)
+        for text in ("", "[]", "{}", '{"imports": 1, "commands": 2}', '{"imports": [], "commands": "x"}', "\x00"):
+            for kept in outlines:
+                kept.write_text(text)
+            self.assertEqual(self.check("--cache", "kept"), first, text)
 
     def test_what_is_wrong_is_not_remembered(self):
         self.write(A="g A `p = q`;;\ne REFL_TAC;;\nqed;;\n", B="import A;;", C="g C `c = c`;;\ne REFL_TAC;;\n", D="import Nothing;;")
@@ -108,7 +119,7 @@ class Farm(unittest.TestCase):
                 kept.write_text(text)
             self.assertEqual(self.check("--cache", "kept")[:2], (0, "a folder/A.hol: 4 commands, 1 theorem, all accepted\n"), text)
             self.assertEqual(self.asked(), {"A"}, text)
-        self.assertEqual([path.suffix for path in (self.folder / "kept").glob("*/*")], [".json"] * 2)
+        self.assertEqual(sorted(path.suffix for path in (self.folder / "kept").glob("*/*")), [".json", ".json", ".outline", ".outline"])
 
     def test_what_theorems_rest_on_is_remembered_where_it_was_asked(self):
         self.write(A="new_axiom AX `a`;;\n" + proofs(1))
@@ -195,7 +206,8 @@ class Farm(unittest.TestCase):
 class OverTheProgram(unittest.TestCase):
     def test_the_library_is_recalled_with_the_same_words(self):
         with tempfile.TemporaryDirectory() as folder:
-            words = [*PYTHON, str(HOLLS), "check", "--server", str(BUILT), "--no-axioms", "--cache", folder, str(ROOT / "theories")]
+            files = [str(ROOT / "theories" / (name + ".hol")) for name in ("lists", "sets", "relations")]
+            words = [*PYTHON, str(HOLLS), "check", "--server", str(BUILT), "--no-axioms", "--cache", folder, *files]
             outputs = []
             for _ in range(2):
                 done = subprocess.run(words, capture_output=True, timeout=SECONDS)
@@ -203,6 +215,7 @@ class OverTheProgram(unittest.TestCase):
                 outputs.append(done.stdout)
             self.assertEqual(outputs[0], outputs[1])
             self.assertEqual(len(list(pathlib.Path(folder).glob("*/*.json"))), outputs[0].count(b"all accepted"))
+            self.assertGreater(outputs[0].count(b"all accepted"), len(files))
 
 
 if __name__ == "__main__":

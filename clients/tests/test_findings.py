@@ -5,7 +5,7 @@ import random
 import time
 import unittest
 
-from holls import graph, protocol
+from holls import fixes, graph, protocol
 from holls.files import File
 from holls.findings import Severity, findings, unknown
 from holls.lsp.workspace import Workspace
@@ -225,6 +225,31 @@ class MisspeltNames(unittest.TestCase):
             self.assertEqual(text[text.index("no function") + len("no function"):], meant, term)
         text = self.said("new_definition D `d x = lengthh x`", protocol.Refusal(protocol.NOT_CLOSED, "lengthh", "not closed"))
         self.assertIn("or did you mean the constant length?", text)
+
+    def test_a_name_that_an_import_has_says_which(self):
+        for command, argument, words in (("g LENGTH_ONE `p`", "thm:LENGTH_ONE", "the theorem LENGTH_ONE stands already: choose another name (it is L's)"),
+                                         ("new_constant length `:A`", "const:length", "the constant length stands already: choose another name (it is L's)"),
+                                         ("new_type bool 0", "type:bool", "the type bool stands already: choose another name (it is the prelude's)"),
+                                         ("g OWN_RULE `p`", "thm:OWN_RULE", "the theorem OWN_RULE stands already: choose another name (it is named on line 2)")):
+            self.assertEqual(self.said(command, protocol.Refusal(protocol.NAME_TAKEN, argument, "name taken")), words)
+
+    def test_a_name_that_another_theory_has_says_which_and_its_import_is_offered(self):
+        file = File("A.hol")
+        file.take("import one;;\ng A `p`;;\ne REWRITE_TAC [ADD_SYM];;\ne NUM_REDUCE_TAC;;\ne ACCEPT_TAC FORALL_ONE;;\n")
+        file.neighbours = lambda: [str(ROOT / "theories" / name) for name in ("arithmetic.hol", "numerals.hol", "one.hol", "no_such_file.hol")]
+        library = File(str(ROOT / "theories" / "one.hol"))
+        library.take("g FORALL_ONE `p`;;")
+        graph.share_notation([library, file])
+        for entry, report in zip(file.theory.entries, (protocol.Made(()), protocol.Goals(()), protocol.Refusal(protocol.UNKNOWN_THEOREM, "ADD_SYM", ""),
+                                                       protocol.Refusal(protocol.UNKNOWN_TAC, "NUM_REDUCE_TAC", ""),
+                                                       protocol.Refusal(protocol.UNKNOWN_THEOREM, "FORALL_ONE", ""))):
+            entry.report = report
+        found = [one for one in findings(file) if one.refusal is not None]
+        self.assertEqual([one.text.split("(")[0].strip() for one in found], [
+            "no theorem ADD_SYM stands before this command; arithmetic has it: import it",
+            "there is no tactic NUM_REDUCE_TAC; numerals has it: import it", "no theorem FORALL_ONE stands before this command"])
+        self.assertEqual([[one.title for one in fixes.fixes(one, file, [file], [file])][:1] for one in found[:2]], [
+            ["Import arithmetic, which makes ADD_SYM"], ["Import numerals, which makes NUM_REDUCE_TAC"]])
 
     def test_hostile_names_take_no_time(self):
         names = ["length%s" % ("x" * 500)] + ["lengt%s" % letter for letter in "abcdefgijklmnopqrstuvwxyz"] * 100

@@ -5,6 +5,7 @@ import subprocess
 import tempfile
 import unittest
 
+from holls.api import Project, Prover, ProverError
 from holls.exchange import citing, importing, kernel, layout, likes, neutral, recording
 from holls.exchange.neutral import Untranslatable
 from holls.files import File
@@ -322,6 +323,23 @@ class OverTheProgram(unittest.TestCase):
         outcome = self.brought(True)
         self.assertEqual([one.name for one in outcome.brought], ["SWAPPED", "FALSE", "CITES"])
         self.assertTrue(outcome.brought[1].commands[0].startswith("new_axiom FALSE "))
+
+    def test_the_interface_brings_theories_that_are_accepted(self):
+        with tempfile.TemporaryDirectory() as folder, Prover(str(BUILT)) as prover:
+            room = pathlib.Path(folder)
+            (room / "base.hol").write_text(BASE)
+            (room / "run.rec").write_text("\n".join(swapped().lines) + "\n")
+            project = Project(prover, str(room / "base.hol"))
+            brought = project.bring(str(room / "run.rec"), sources=["test.ml"], seconds=10.0)
+            self.assertEqual((list(brought.texts), brought.theorems, brought.derived), (["from_test"], ("SWAPPED",), ()))
+            self.assertEqual(set(brought.missing), {"FALSE", "CITES", "UNKNOWN"})
+            checked = project.text(brought.texts["from_test"], "from_test").check()
+            self.assertEqual((checked.is_accepted, [one.name for one in checked.theorems], checked.axioms), (True, ["SWAPPED"], ()))
+            self.assertIn("BOTH", project.to_ocaml())
+            (room / "run.rec").write_text("nonsense\n")
+            for record in ("run.rec", "nowhere.rec"):
+                with self.assertRaises(ProverError):
+                    project.bring(str(room / record), names=["SWAPPED"])
 
     def test_the_command_writes_files_that_are_accepted(self):
         with tempfile.TemporaryDirectory() as folder:

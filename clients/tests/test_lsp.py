@@ -180,7 +180,7 @@ class Bridging(unittest.TestCase):
     def test_a_session_from_opening_to_the_end(self):
         editor = self.editor()
         editor.open(self.uri, "g A `p /\\ q`;;\ne CONJ_TAC;;\ne FOO;;\n\ng B `x = x`;;\ne REFL_TAC;;\nqed;;\n")
-        editor.until(lambda: editor.said(self.uri) == [(2, 1, "there is no function on goals FOO")])
+        editor.until(lambda: editor.said(self.uri) == [(2, 1, "there is no tactic FOO")])
         goals = editor.goals(self.uri, 1, 3)
         self.assertEqual([goal["ty"] for goal in goals["goals"]["goals"]], ["p", "q"])
         self.assertEqual([goal["ty"] for goal in editor.goals(self.uri, 1, 3, "Prev")["goals"]["goals"]], ["p /\\ q"])
@@ -208,6 +208,15 @@ class Bridging(unittest.TestCase):
 
     def reports(self):
         return [request["at"] for request in self.requests() if request["op"] == "report"]
+
+    def test_an_oops_that_was_hidden_is_asked_for_once_it_is_written(self):
+        editor = self.editor()
+        editor.open(self.uri, "g A `p = q`;;\ne ALL_TAC;;\nnew_axiom B `p`;;\n")
+        editor.until(lambda: [found[:2] for found in editor.said(self.uri)] == [(2, 1)] and editor.unknown.get(self.uri) == [])
+        editor.change(self.uri, 2, "oops;;\n", ((2, 0), (2, 0)))  # All that is sent is as it was.
+        editor.until(lambda: editor.versions[self.uri] == 2 and editor.said(self.uri) == [] and editor.unknown.get(self.uri) == [])
+        self.assertEqual(editor.goals(self.uri, 2, 1)["text"], "no proof is open\n")
+        self.assertEqual(editor.end(), 0)
 
     def test_nothing_is_said_of_a_correct_file_at_any_time_but_what_is_not_known(self):
         editor = self.editor()
@@ -426,7 +435,7 @@ class Bridging(unittest.TestCase):
         other = (self.folder / "B.hol").as_uri()
         (self.folder / "A.hol").write_text(proofs(1))
         editor.open(other, "import A;;\nimport C;;\n")
-        editor.until(lambda: editor.said(other) == [(1, 1, "there is no file C.hol in %s" % self.folder)])
+        editor.until(lambda: editor.said(other) == [(1, 1, "there is no file C.hol in %s or in the library" % self.folder)])
         editor.open(self.uri, "g A `p = q`;;\n")
         editor.until(lambda: editor.said(self.uri) == [(0, 3, "the proof of A isn't ended yet")])
         self.assertEqual(editor.goals(other, 0, 1)["messages"], [])

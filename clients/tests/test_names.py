@@ -130,8 +130,8 @@ class InAProject(unittest.TestCase):
         def word(before):
             return lookup.word(files, document.file, text.index(before) + len(before))
 
-        self.assertEqual(hovering.of_word(word("REPEAT\n  "), None), "```hol\ndeftac HALVES CONJ_TAC\n```\n\nfunction on goals of A")
-        shown = "```hol\ndeftac ONCE REPEAT HALVES\n```\n\nfunction on goals of N, not proved or checked yet"
+        self.assertEqual(hovering.of_word(word("REPEAT\n  "), None), "```hol\ndeftac HALVES CONJ_TAC\n```\n\ntactic of A")
+        shown = "```hol\ndeftac ONCE REPEAT HALVES\n```\n\ntactic of N, not proved or checked yet"
         self.assertEqual([hovering.of_word(word(before), None) for before in ("deftac ", "ABS_REP ", "\ne ")], [shown] * 3)
         self.assertEqual(word("ACCEPT_TAC ").known.kind, names.THEOREM)
         self.assertEqual(word("`p` ").known.kind, names.TACTIC)
@@ -178,20 +178,20 @@ class InAProject(unittest.TestCase):
         self.assertEqual(len(self.navigation.references(self.document, self.files, C.index("ONCE;;"), False)), 2)
         found = self.navigation.references(self.document, self.files, C.index("c x"), True)
         self.assertEqual(sorted(pathlib.PurePosixPath(one["uri"]).name for one in found), ["A.hol", "B.hol", "C.hol", "OTHER.hol"])
-        symbols = [one["name"] for one in self.navigation.symbols("abs", [self.files])]
+        symbols = [one["name"] for one in self.navigation.symbols("abs", {self.document.project.key: self.files})]
         self.assertEqual(set(symbols[:2]), {"abs", "ABS_REP"})
-        self.assertIn("ELSE", [one["name"] for one in self.navigation.symbols("els", [self.files])])
+        self.assertIn("ELSE", [one["name"] for one in self.navigation.symbols("els", {self.document.project.key: self.files})])
         links = self.navigation.links(self.document, self.files)
         self.assertEqual([(one["range"]["start"], one["target"][-5:]) for one in links], [({"line": 0, "character": 7}, "B.hol")])
 
     def test_searching_finds_what_stands_in_all_files_and_its_statements_are_read_ahead(self):
-        self.assertEqual(len(list(self.navigation.reading([self.files]))), 7)  # Of A two, of B three, of C and OTHER one each.
-        found = self.navigation.search("x = x /\\ _", False, [self.files])
+        self.assertEqual(len(list(self.navigation.reading({self.document.project.key: self.files}))), 7)  # Of A two, of B three, of C and OTHER one each.
+        found = self.navigation.search("x = x /\\ _", False, {self.document.project.key: self.files})
         self.assertEqual([(one["name"], one["theory"], one["isMade"]) for one in found], [("ONCE", "A", True)])
         self.assertEqual(found[0]["location"]["range"]["start"], {"line": 1, "character": 2})
-        found = self.navigation.search("d x = c x", False, [self.files])
+        found = self.navigation.search("d x = c x", False, {self.document.project.key: self.files})
         self.assertEqual([(one["name"], one["isMade"]) for one in found], [("D_DEF", False)])
-        found = self.navigation.search("else", False, [self.files])
+        found = self.navigation.search("else", False, {self.document.project.key: self.files})
         self.assertEqual([(one["name"], one["isMade"]) for one in found], [("ELSE", False)])
 
 

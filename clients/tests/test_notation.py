@@ -14,6 +14,7 @@ from holls import check, fixes, graph, names, protocol, search, spelling
 from holls.files import File
 from holls.findings import Severity, findings
 from holls.lsp import completion, goals, hovering, lookup, numerals
+from holls.lsp.workspace import Workspace
 from holls.prover.command import in_notation_at
 from holls.protocol import Goal, Goals, Made, Refusal
 from holls.text import cut
@@ -78,6 +79,20 @@ class InFiles(unittest.TestCase):
             in_order, at_last = loaded(**texts), loaded(**texts)
             wanted = {name: [command.text for command in in_order[name].commands] for name in "ABCDEFG"}
             self.assertEqual({name: [command.text for command in at_last[name].commands] for name in "GFEDCBA"}, wanted, seed)
+
+    def test_what_the_library_declares_is_not_forgotten_by_a_look_at_all_files(self):
+        """As a search of theorems, and what can be done about an error, look at them, and the bridge does by itself when all is known."""
+        with tempfile.TemporaryDirectory() as folder:
+            pathlib.Path(folder, "B.hol").write_text("import pairs;;\ng X `(x,y) = z`;;\n")
+            workspace = Workspace()
+            document = workspace.open(pathlib.Path(folder, "A.hol").as_uri(), 1, "import functions;;\ng X `f o g = f`;;\n")
+            files = next(iter(workspace.groups().values()))
+            before = document.file.notation
+            self.assertEqual(sent(document.file)[1], "g X `o f g = f`")
+            every = workspace.every_file(document.project, files)
+            self.assertIs(document.file.notation, before)
+            self.assertEqual({file.name for file in every}, {"A", "B"} | {file.name for file in files})
+            self.assertEqual(sent(next(file for file in every if file.name == "B"))[1], "g X `pair x y = z`")
 
     def test_an_edited_declaration_changes_what_is_below_and_what_imports_it(self):
         files = loaded(A=NUMBERS, B="import A;;\ng X `x + 1 < 2`;;\ne ALL_TAC;;")

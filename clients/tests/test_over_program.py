@@ -3,6 +3,7 @@
 import pathlib
 import shutil
 import tempfile
+import time
 import unittest
 
 from tests.helpers import BUILT, ROOT
@@ -51,6 +52,56 @@ class OverTheProgram(unittest.TestCase):
         editor.until(lambda: editor.versions.get(uri) == 2 and [one[:2] for one in editor.said(uri)] == [(0, 1)])
         self.assertEqual(editor.end(), 0)
 
+    def offered(self, editor, uri, line):
+        """The actions at a line."""
+        span = {side: {"line": line, "character": 3} for side in ("start", "end")}
+        return editor.ask("textDocument/codeAction", {"textDocument": {"uri": uri}, "range": span, "context": {"diagnostics": []}})
+
+    def test_other_proofs_are_offered_in_the_place_of_the_one_that_was_found(self):
+        editor = Editor(str(BUILT))
+        self.addCleanup(editor.kill)
+        editor.begin()
+        uri, text = "file:///others.hol", "g A `(!x:A. P x ==> Q x) /\\ P a ==> ?x. Q x`;;\n"
+        editor.open(uri, text)
+        editor.goals(uri, 0, 3)
+        offered = self.offered(editor, uri, 0)
+        self.assertFalse([one for one in offered if one["title"].startswith("Instead")])
+        action = next(one for one in offered if one["title"] == "Find a proof")
+        edit = editor.ask("codeAction/resolve", action)["edit"]["changes"][uri][0]
+        at = edit["range"]["start"]["character"]
+        editor.change(uri, 2, edit["newText"], ((0, at), (0, at)))
+        found = []
+        while not found:
+            time.sleep(0.2)
+            found = [one for one in self.offered(editor, uri, 0) if one["title"].startswith("Instead: ")]
+        other = found[0]["edit"]["changes"][uri][0]
+        self.assertTrue(other["newText"].startswith("\ne STRIP_TAC THEN EXISTS_TAC `a:A` THEN ACCEPT_TAC"), other)
+        self.assertEqual(other["newText"].count(";;"), 1)
+        last = edit["newText"].split("\n")[-1]
+        self.assertEqual(other["range"], {"start": {"line": 0, "character": at}, "end": {"line": 2, "character": len(last)}})
+        editor.change(uri, 3, other["newText"] + "\nqed;;", ((0, at), (2, len(last))))
+        editor.until(lambda: editor.versions.get(uri) == 3 and not editor.said(uri))
+        self.assertIn("Instead: e STRIP_TAC THEN EXISTS_TAC `a:A`;; e ACCEPT_TAC",
+                      "".join(one["title"] for one in self.offered(editor, uri, 0) if one["title"].startswith("Instead: ")))
+        self.assertEqual(editor.end(), 0)
+
+    def test_a_step_that_names_a_search_is_replaced_by_what_it_finds(self):
+        editor = Editor(str(BUILT))
+        self.addCleanup(editor.kill)
+        editor.begin()
+        uri = "file:///wanted.hol"
+        editor.open(uri, "new_constant P `:A->bool`;; new_constant Q `:A->bool`;; new_axiom TURNED `!x:A. P x ==> Q x`;;\n"
+                         "g A `P (a:A) ==> Q a`;;\ne MESON_TAC [TURNED];;\nqed;;\ng B `p:bool`;;\ne FOO_TAC;;\n")
+        editor.goals(uri, 2, 3)
+        editor.until(lambda: editor.said(uri))
+        found = [one for one in self.offered(editor, uri, 2) if one["title"] == "Replace MESON_TAC by the steps of a proof"]
+        answer = editor.ask("codeAction/resolve", found[0])
+        edit = answer.get("edit", answer)["changes"][uri][0]
+        self.assertEqual(edit["range"], {"start": {"line": 2, "character": 0}, "end": {"line": 2, "character": 20}})
+        self.assertIn("TURNED", edit["newText"])
+        self.assertEqual([one["title"] for one in self.offered(editor, uri, 5) if one["title"].startswith("Replace")], [])
+        self.assertEqual(editor.end(), 0)
+
     def test_arithmetic_is_offered_with_the_import_that_it_needs(self):
         editor = Editor(str(BUILT))
         self.addCleanup(editor.kill)
@@ -77,7 +128,8 @@ class OverTheProgram(unittest.TestCase):
         editor.begin()
         uri = "file:///inside.hol"
         text = "g A `p /\\ q ==> q /\\ p`;;\ne STRIP_TAC;;\ne CONJ_TAC THEN ASM_REWRITE_TAC [] THEN ALL_TAC;;\nqed;;\n"
-        text += "g B `!x:A. x = x /\\ (p ==> p)`;;\ne GEN_TAC THEN CONJ_TAC THEN REFL_TAC;;\n"
+        text += "g B `!x:A. x = x /\\ (p ==> p)`;;\ne GEN_TAC THEN CONJ_TAC THEN REFL_TAC;;\noops;;\n"
+        text += "g C `(p ==> p) /\\ (q ==> r ==> q)`;;\ne CONJ_TAC THENL [DISCH_TAC THEN ASM_REWRITE_TAC []; DISCH_TAC THEN (REFL_TAC ORELSE DISCH_TAC)];;\n"
         editor.open(uri, text)
         editor.until(lambda: uri in editor.published)
         second = editor.hover(uri, 2, text.split("\n")[2].index("ASM_REW") + 1, "before this part")["contents"]["value"]
@@ -86,6 +138,13 @@ class OverTheProgram(unittest.TestCase):
         self.assertIn("before this part:\n1 goal\n", first)
         broken = editor.hover(uri, 5, text.split("\n")[5].index("REFL_TAC") + 1, "refused in this part")["contents"]["value"]
         self.assertIn("refused in this part, on goal 2 of 2: ", broken)
+        last = text.split("\n")[8]
+        branch = editor.hover(uri, 8, last.index("REFL_TAC") + 1, "before this part")["contents"]["value"]
+        self.assertIn("before this part:\n1 goal\n  q : bool\n  r : bool\n  0  q\n  " + "-" * 40 + "\n  r ==> q\n", branch)
+        other = editor.hover(uri, 8, last.index("ASM_REW") + 1, "before this part")["contents"]["value"]
+        self.assertIn("before this part:\n1 goal\n  p : bool\n  0  p\n", other)
+        either = editor.hover(uri, 8, last.rindex("DISCH_TAC") + 1, "before this part")["contents"]["value"]
+        self.assertIn("  r ==> q\n", either)
         whole = editor.hover(uri, 1, 3, "STRIP_TAC")["contents"]["value"]
         self.assertNotIn("before this part", whole)
         self.assertEqual(editor.end(), 0)

@@ -9,6 +9,7 @@ import unittest
 
 from tests import browser
 from tests.helpers import BUILT, CLIENTS, PYTHON, ROOT, fake, proofs
+from tests.lesson_answers import ANSWERS
 from tests.test_page_server import Served
 
 EXAMPLES = ROOT / "examples"
@@ -342,9 +343,12 @@ class Program(InBrowser):
     def test_each_lesson_is_solved(self):
         shown = self.open("?seconds=600")
         lessons = shown.value("""import('/lessons.js').then(
-            ({ LESSONS, given, solved }) => LESSONS.map((lesson) => [given(lesson), solved(lesson), lesson.wanted]))""")
-        self.assertEqual(len(lessons), 10)
-        for number, (given, solved, wanted) in enumerate(lessons):
+            ({ LESSONS, given, solved }) => LESSONS.map((lesson) => [given(lesson), solved(lesson), lesson.wanted, lesson.given]))""")
+        self.assertEqual(len(lessons), 25)
+        self.assertEqual([number + 1 for number, (given, solved, _, _) in enumerate(lessons) if given == solved], [*ANSWERS])
+        for number, (given, solved, wanted, parts) in enumerate(lessons):
+            if number + 1 in ANSWERS:
+                solved = "\n".join(part + answer for part, answer in zip(parts, ANSWERS[number + 1]))
             self.assertEqual(shown.until("window.page.active.name"), "Lesson%d" % (number + 1))
             self.assertEqual(shown.value("document.getElementById('text').value"), given)
             self.write("".join("new_axiom %s `%s`;;\n" % tuple(text[4:].split(" |- ")) for text in wanted))
@@ -357,7 +361,7 @@ class Program(InBrowser):
             shown.until("document.getElementById('verdict').textContent.startsWith('✓')")
             self.assertEqual(self.errors(), [])
             shown.click("#next")
-        self.assertEqual(shown.until("document.querySelectorAll('.lessons .done').length"), 10)
+        self.assertEqual(shown.until("document.querySelectorAll('.lessons .done').length"), 25)
 
     def follow_hints(self, given):
         """Solves a lesson by its hints, each put in as it is shown."""

@@ -133,7 +133,7 @@ class Server(Served):
         modules = {module.name: module.read_text() for module in FOLDER.glob("*.js")}
         self.assertLess(sum(text.count("\n") for text in modules.values()), 2600)
         for name, text in modules.items():
-            if name != "lessons.js":  # Whose texts are theories.
+            if name not in ("lessons.js", "second_hour.js"):  # Whose texts are theories.
                 for word in ("REWRITE_TAC", "REFL_TAC", "new_axiom", "new_definition", "deftac", "SPEC"):
                     self.assertNotIn(word, text, name)
 

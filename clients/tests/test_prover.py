@@ -10,7 +10,7 @@ import unittest
 
 from holls import files, names, server
 from holls.protocol import Goal, Goals
-from holls.prover import clauses, command, equality, finding, ground, named, reading, retyping, scope, scripts, sequents, substituting, tables, trying
+from holls.prover import clauses, clock, equality, finding, ground, named, reading, retyping, scope, scripts, sequents, substituting, tables, trying
 from holls.prover import typed, writing
 from holls.prover.asking import Asker
 from holls.prover.finder import Finder
@@ -20,6 +20,8 @@ from tests.helpers import BUILT, CLIENTS, HOLLS, PYTHON, ROOT, SECONDS, fake
 GOALS = CLIENTS / "tests" / "goals"
 THEORIES = ("connectives", "maps", "pair_type", "group_axioms")
 SEARCH_SECONDS = 10.0
+THEORY_SECONDS = 2.0
+"""So long a theorem of examples/theories is searched, by the processor's time: as many are found as in the five seconds that a user has."""
 
 
 def stored(name):
@@ -307,7 +309,7 @@ class OverTheProgram(unittest.TestCase):
 
 
 class Naming(Asker):
-    """Names stand for expressions in what is sent: so named functions on goals are tried without a file that names them."""
+    """Names stand for expressions in what is sent: so named tactics are tried without a file that names them."""
 
     functions = {"SPLIT_TAC": "EQ_TAC THEN STRIP_TAC", "TABLE_TAC": "REPEAT GEN_TAC THEN CASES_TAC THEN ASM_REWRITE_TAC []",
                  "CASES_TAC": "DISJ_CASES_TAC (SPEC `p:bool` MIDDLE)", "EXT_TAC": "MATCH_MP_TAC EXT THEN GEN_TAC", "HALVES": "CONJ_TAC"}
@@ -390,6 +392,10 @@ class NamedFunctions(unittest.TestCase):
 class Theories(unittest.TestCase):
     """The theorems of examples/theories, their proofs taken out: of each file at least a part is found again, and accepted."""
 
+    def setUp(self):
+        clock.use(time.process_time)  # What else the machine does changes nothing of what is found.
+        self.addCleanup(clock.use, time.monotonic)
+
     def found(self, name):
         """How many theorems there are, and the names of those that are found."""
         asker = Asker(server.find(str(BUILT)), SECONDS)
@@ -409,7 +415,7 @@ class Theories(unittest.TestCase):
                     before.add_file(theory(other))
                 before.add_file(file, first)
                 goals = asker.report(asker.count - 1)
-                steps = Finder(asker, before, goals, names.quoted(file.commands[first]), time.monotonic() + command.SECONDS).find(None)
+                steps = Finder(asker, before, goals, names.quoted(file.commands[first]), clock.now() + THEORY_SECONDS).find(None)
                 asker.extend([one.text for one in file.commands[first + 1:last + 1]])
                 own = [one.text for one in file.commands[first:last + 1]] if steps is None else [file.commands[first].text, *steps, "qed"]
                 found += [file.commands[first].name] if steps is not None else []

@@ -3,8 +3,10 @@
 import random
 import time
 import unittest
+from unittest import mock
 
 from holls.prover import clock, counterexamples, linear, models, polynomials, reading, typed
+from holls.prover.asking import Silent
 from holls.prover.finder import Finder
 from holls.prover.polynomials import total
 from holls.prover.shown import Shown
@@ -51,6 +53,26 @@ class Linear(unittest.TestCase):
         self.assertEqual(polynomials.tightened({(0,): 4, (): -3}), {(0,): 1, (): -1})
 
 
+class Shares(unittest.TestCase):
+    def test_what_is_late_or_missed_is_told(self):
+        def result(seconds, is_found):
+            return prover_goals.Result(prover_goals.Stated("SET", [], "T"), ["e INT_TAC"] if is_found else None, seconds)
+
+        some = [result(0.1, True)] * 12 + [result(0.4, True)] * 8
+        self.assertEqual(prover_goals.times(some), (0.1, 0.4))
+        self.assertEqual(prover_goals.of_share(prover_goals.Share("SET", False, 0.8), some + [result(5.0, False)] * 5),
+                         "SET      unnamed  20 of  25,  80 % (80 wanted), median 0.10 s, 95 % within 0.40 s")
+
+    def test_a_goal_at_which_the_program_falls_silent_is_not_found(self):
+        library, goal = mock.Mock(seconds=1.0), prover_goals.Stated("SET", [], "T")
+        library.prove.side_effect = Silent("hol_serve gave no answer in time")
+        with mock.patch.object(prover_goals, "LIBRARY", [library]), mock.patch.object(prover_goals, "begin") as begin:
+            at = [one.kind for one in prover_goals.SHARES].index("SET")
+            self.assertEqual(prover_goals.search((at, goal)), (at, prover_goals.Result(goal, None, 1.0)))
+            begin.assert_called_once_with(1.0)
+        library.stop.assert_called_once_with()
+
+
 class Models(unittest.TestCase):
     def stored(self, name):
         """The goals of a file, as terms."""
@@ -80,46 +102,44 @@ class Models(unittest.TestCase):
 
 @unittest.skipUnless(BUILT.exists(), "hol_serve isn't built")
 class OverTheLibrary(unittest.TestCase):
-    @classmethod
-    def setUpClass(cls):
+    def setUp(self):
         clock.use(time.process_time)
-        cls.library = prover_goals.Library()
-
-    @classmethod
-    def tearDownClass(cls):
-        cls.library.stop()
-        clock.use(time.monotonic)
+        self.addCleanup(clock.use, time.monotonic)
+        self.library = prover_goals.shared()
 
     def found(self, text, seconds=30.0):
         """The steps for a goal, which the program has accepted."""
         return self.library.prove(prover_goals.Stated("", [], text), False, seconds)
 
-    def shares(self, kind, is_named, least, most_seconds):
-        """That at least a share of a kind's sample is found, in the median within some seconds of this process's own."""
-        goals = [goal for goal in prover_goals.stored([kind], False) if not is_named or self.library.has_named(goal)]
+    def shares(self, kind, is_named, least, every=prover_goals.SAMPLED):
+        """That at least a share of a kind's sample is found, half of it in some seconds of the processor, the program's with them: several times what it
+        takes where nothing else is at work. (prover_goals.py tells it of the whole list.)"""
+        goals = [goal for goal in prover_goals.stored([kind])[::every] if not is_named or self.library.has_named(goal)]
         results = [self.library.prove(goal, is_named) for goal in goals]
-        times = sorted(one.seconds for one in results if one.steps) or [0.0]
         missed = "\n".join(one.goal.text for one in results if not one.steps)
         self.assertGreaterEqual(sum(bool(one.steps) for one in results), least * len(results), missed)
-        self.assertLess(times[len(times) // 2], most_seconds)
+        self.assertLess(prover_goals.times(results)[0], 4.0)
 
     def test_arithmetic(self):
-        self.shares("ARITH", False, 0.95, 1.0)
+        self.shares("ARITH", False, 0.95)
 
     def test_tautologies(self):
-        self.shares("TAUT", False, 0.95, 1.0)
+        self.shares("TAUT", False, 0.95)
 
     def test_logic_with_what_is_named(self):
-        self.shares("MESON", True, 0.85, 1.0)
+        self.shares("MESON", True, 0.85)
 
     def test_logic_with_nothing_named(self):
-        self.shares("MESON", False, 0.6, 1.0)
+        self.shares("MESON", False, 0.6)
 
     def test_sets(self):
-        self.shares("SET", False, 0.8, 1.0)
+        self.shares("SET", False, 0.8)
+
+    def test_simplifying_with_what_is_named(self):
+        self.shares("SIMP", True, 0.7, 2)
 
     def test_rewriting_with_what_is_named(self):
-        self.shares("REWRITE", True, 0.7, 1.0)
+        self.shares("REWRITE", True, 0.7)
 
     def test_sums_of_forty_parts_and_products(self):
         found = self.found(chain(40))
@@ -132,10 +152,15 @@ class OverTheLibrary(unittest.TestCase):
                      "lt ((f:A->num) n) (f m) /\\ le (f m) k ==> lt (f n) k"):
             self.assertTrue(self.found(text).steps, text)
 
+    def test_least_and_greatest_numbers(self):
+        for text in ("MIN _0 n = _0", "le (add k (MIN a b)) (add a b) ==> le k a \\/ le k b", "add (MAX m n) (MIN m n) = add m n",
+                     "lt m (MAX m (SUC n)) ==> le m n", "le (MAX (MAX a b) c) d <=> le a d /\\ le b d /\\ le c d"):
+            self.assertTrue(self.found(text).steps, text)
+
     def test_false_goals_end_with_numbers(self):
         for text, wanted in (
                 ("lt a b ==> lt b a", {"a": 0, "b": 1}), ("le (mult m n) (add m n)", {"m": 2, "n": 3}), ("!n. EVEN n \\/ lt n (BIT0 _1)", {"n": 3}),
-                ("p \\/ sub m n = sub n m", {"m": 0, "n": 1, "p": False}), ("DIV (add m n) (BIT0 _1) = add (DIV m (BIT0 _1)) (DIV n (BIT0 _1))", {"m": 1, "n": 1})):
+                ("p \\/ sub m n = sub n m", {"m": 0, "n": 1, "p": False}), ("MIN m n = m", {"m": 1, "n": 0}), ("DIV (add m n) (BIT0 _1) = add (DIV m (BIT0 _1)) (DIV n (BIT0 _1))", {"m": 1, "n": 1})):
             report = self.library.asker.step("g GOAL `%s`" % text)
             finder = Finder(self.library.asker, self.library.scope, report, text, clock.now() + 5.0)
             self.assertIsNone(finder.find(None), text)

@@ -1,5 +1,6 @@
 """Ways to a proof: theorems that say a goal, premises, orders of rules, inductions; imports that are offered; and the server that is kept."""
 
+import functools
 import json
 import os
 import pathlib
@@ -12,10 +13,12 @@ import unittest
 from unittest import mock
 
 from holls.protocol import Refusal
-from holls.prover import clock, induction, knowledge, orders, patterns, preparing, reading, scope, serving, typed
+from holls.prover import clock, command, induction, knowledge, orders, patterns, preparing, reading, scope, serving, shaping, typed
 from holls.prover.facts import Fact
 from holls.prover.finder import Finder
 from holls.prover.premises import Premises
+from holls.prover.shown import Shown
+from holls.prover.warm import Request, Warm
 from tests import prover_goals
 from tests.helpers import BUILT, HOLLS, PYTHON, ROOT, SECONDS
 
@@ -32,11 +35,16 @@ def library(*names):
 LOGIC = ("logic", "functions", "pairs", "numbers", "arithmetic", "sets", "lists", "relations")
 
 
+@functools.lru_cache(1)
+def known():
+    """What is known at the end of the files of logic, which no test changes."""
+    return knowledge.Knowledge(library(*LOGIC))
+
+
 class Theorems(unittest.TestCase):
-    @classmethod
-    def setUpClass(cls):
-        cls.scope = library(*LOGIC)
-        cls.known = knowledge.Knowledge(cls.scope)
+    def setUp(self):
+        self.known = known()
+        self.scope = self.known.scope
 
     def read(self, text):
         """The term of a text."""
@@ -49,6 +57,16 @@ class Theorems(unittest.TestCase):
         self.assertTrue(binding.match(found[1].conclusion, self.read("~R (f a:A)")))
         self.assertEqual(binding.instance(found[1].premises[0]), self.read("(P:A->bool) (f a)"))
         self.assertFalse(patterns.Binding().match(found[1].conclusion, self.read("R (a:A):bool")))
+
+    def test_an_equation_is_found_by_its_shape(self):
+        goal = self.read("P (c:A) ==> !x:A. ?y:B. R x y /\\ Q y")
+        found = shaping.instances(Shown((), goal, {}), shaping.shapes(["SKOLEM_THM"], self.known), self.known)
+        self.assertEqual([one.said for one in found], [self.read("(!x:A. ?y:B. R x y /\\ Q y) <=> (?y. !x:A. R x (y x) /\\ (Q:B->bool) (y x))")])
+        inner = self.read("!z. (f:A->B) z = f z ==> (?x:A. R z x)")
+        found = shaping.instances(Shown((), inner, {}), shaping.shapes(["RIGHT_IMP_EXISTS_THM"], self.known), self.known)
+        self.assertEqual([one.said for one in found], [self.read("!z. (((f:A->B) z = f z) ==> (?x:A. R z x)) <=> (?x:A. f z = f z ==> R z x)")])
+        none = self.read("!x:A. ?y:A. R x (f y)")
+        self.assertEqual(shaping.instances(Shown((), none, {}), shaping.shapes(["RIGHT_IMP_EXISTS_THM"], self.known), self.known), [])
 
     def test_rules_that_end(self):
         for name, wanted in (("ADD_CLAUSES", True), ("MULT", True), ("EXP", True), ("REVERSE_APPEND", True), ("MEM", True), ("ADD_SYM", False),
@@ -97,15 +115,10 @@ class Theorems(unittest.TestCase):
 
 @unittest.skipUnless(BUILT.exists(), "hol_serve isn't built")
 class OverTheLibrary(unittest.TestCase):
-    @classmethod
-    def setUpClass(cls):
+    def setUp(self):
         clock.use(time.process_time)
-        cls.library = prover_goals.Library()
-
-    @classmethod
-    def tearDownClass(cls):
-        cls.library.stop()
-        clock.use(time.monotonic)
+        self.addCleanup(clock.use, time.monotonic)
+        self.library = prover_goals.shared()
 
     def test_inductions(self):
         for text in ("!l:A list. REVERSE (REVERSE l) = l", "!n x. LENGTH (REPLICATE n (x:A)) = n", "!(R:A->A->bool) x y. TC R x y ==> RTC R x y",
@@ -119,8 +132,23 @@ class OverTheLibrary(unittest.TestCase):
         self.assertIn("CONJ_TAC", found.steps[0])
 
     def test_conditions_are_shown(self):
-        goal = prover_goals.Stated("", ["SUB_ADD"], "le n m /\\ (P:num->bool) m ==> P (add (sub m n) n)")
-        self.assertTrue(self.library.prove(goal, True, 30.0).steps)
+        for names, text in ((["SUB_ADD"], "le n m /\\ (P:num->bool) m ==> P (add (sub m n) n)"),
+                            (["DIV_MULT"], "(!n. (P:num->bool) (DIV (mult _1 n) _1)) <=> (!n. P n)"),
+                            (["DIV_MULT", "MAP_ID"], "~(k = _0) ==> MAP (\\x. DIV (mult k x) k) l = l")):
+            self.assertTrue(self.library.prove(prover_goals.Stated("", names, text), True, 30.0).steps, text)
+
+    def test_equations_for_functions_of_what_is_bound(self):
+        for names, text in ((["RIGHT_IMP_EXISTS_THM", "SKOLEM_THM"], "!P (R:A->B->bool). (!x. P x ==> (?y. R x y)) <=> ?f. !x. P x ==> R x (f x)"),
+                            (["SKOLEM_THM"], "(?f:A->num. !x. lt (f x) (g x)) <=> !x:A. ?y. lt y (g x)"),
+                            (["EXISTS_UNCURRY", "PAIRED_ETA_THM"], "!P:((A,B)prod->C)->bool. (?f. P f) <=> ?f. P (UNCURRY (\\a b. f a b))"),
+                            (["EXISTS_PAIR_FUN_THM", "o_DEF", "ETA_AX"], "!P:(A->B)->(A->C)->bool. (?f g. P f g) <=> ?h. P (o FST h) (o SND h)")):
+            self.assertTrue(self.library.prove(prover_goals.Stated("", names, text), True).steps, text)
+
+    def test_the_order_of_operands(self):
+        for text in ("int_add (int_add a b) (int_add c d) = int_add d (int_add (int_add c b) a)",
+                     "!x y z. int_mul x (int_add (int_mul y z) x) = int_mul (int_add x (int_mul z y)) x",
+                     "(!x y. (f:A->A->A) x y = f y x) /\\ (!x y z. f x (f y z) = f (f x y) z) ==> f a (f b (f c d)) = f (f d c) (f b a)"):
+            self.assertTrue(self.library.prove(prover_goals.Stated("", [], text), False).steps, text)
 
     def test_a_goal_is_made_simpler_where_it_is_not_closed(self):
         for text, wanted in (("(P:num->bool) (LENGTH (APPEND (CONS x NIL) (l:A list)))", "P (SUC (LENGTH l))"),
@@ -220,6 +248,29 @@ class Commands(unittest.TestCase):
     def test_no_import_where_none_is_needed(self):
         status, said = self.prove(4, "--json")
         self.assertEqual((status, list(json.loads(said))), (0, ["steps"]))
+
+    def test_what_is_made_above_is_known_at_once_and_no_longer_than_it_stands(self):
+        warm = Warm([str(BUILT)])
+        self.addCleanup(warm.stop)
+        for above, wanted in (("", None), ("new_axiom CZ `C = _0`;;\n", ["e ACCEPT_TAC CZ"]), ("", None), ("new_axiom CY `C = _0`;;\n", ["e ACCEPT_TAC CY"])):
+            (self.folder / "mine.hol").write_text("import numbers;;\nnew_constant C `:num`;;\n%sg A `C = _0`;;\n" % above)
+            unit = command.unit(str(self.folder / "mine.hol"))
+            answer = warm.search(Request(unit.file, len(unit.file.commands) - 1, unit.imports, (), None, 1.0 if wanted is None else 30.0))
+            self.assertEqual(answer.steps, wanted)
+
+    def test_several_proofs_are_told_the_shortest_first(self):
+        status, said = self.prove(4, "--json", "--several")
+        found = json.loads(said)
+        every = [found["steps"], *found["others"]]
+        self.assertEqual(status, 0)
+        self.assertGreater(len(every), 1)
+        self.assertEqual(len({tuple(one) for one in every}), len(every))
+        lengths = [sum(map(len, one)) for one in every]
+        self.assertEqual(lengths, sorted(lengths))
+        proofs = "".join("g B%d `add m n = add n m`;;\n%s;;\nqed;;\n" % (number, ";;\n".join(steps)) for number, steps in enumerate(every))
+        (self.folder / "mine.hol").write_text("import arithmetic;;\n" + proofs)
+        done = subprocess.run([*PYTHON, str(HOLLS), "check", str(self.folder / "mine.hol"), "--server", str(BUILT)], capture_output=True, text=True)
+        self.assertEqual(done.returncode, 0, done.stdout)
 
     def test_a_server_that_is_kept(self):
         given = [*PYTHON, str(HOLLS), "prove", "--serve", str(self.folder), "--server", str(BUILT)]

@@ -1,11 +1,13 @@
 """The released program: how it is unpacked, and what is said where it can't be used."""
 
 import hashlib
+import importlib
 import json
 import lzma
 import os
 import pathlib
 import subprocess
+import sys
 import tempfile
 import unittest
 from unittest import mock
@@ -66,6 +68,18 @@ class Released(unittest.TestCase):
         with mock.patch("platform.machine", lambda: "arm64"), self.assertRaises(server.NoServer) as found:
             server.find()
         self.assertIn("the released program is for Linux on x86_64, and this is Linux on arm64", str(found.exception))
+
+    def test_a_python_without_lzma_is_told(self):
+        with mock.patch.dict(sys.modules, {"lzma": None}):
+            importlib.reload(released)
+            try:
+                with self.assertRaises(server.NoServer) as found:
+                    server.find()
+            finally:
+                del sys.modules["lzma"]
+                importlib.reload(released)
+        self.assertIn("this Python was built without lzma", str(found.exception))
+        self.assertIn("xz -dk", str(found.exception))
 
     def test_a_folder_that_takes_nothing_is_named(self):
         (self.room / "cache").write_text("a file")

@@ -26,6 +26,8 @@ class Lines(unittest.TestCase):
     def test_a_line_is_whole_where_nothing_is_open_and_no_word_waits(self):
         for text in ("g `p`", "e CONJ_TAC", "e CONJ_TAC;;", "", "b", "e (CONJ_TAC THEN ALL_TAC)", "e THEN;;", "(* a *) qed", "p", "import logic"):
             self.assertTrue(is_whole(text), text)
+        for text in ("e CONJ_TAC;", "quit", "#quit;;"):
+            self.assertTrue(is_whole(text), text)
         for text in ("g `p /\\", "e CONJ_TAC THEN", "e (CONJ_TAC", "e REWRITE_TAC [A;", "(* a", "e", "g", "e REPEAT", "new_definition D `c =\n"):
             self.assertFalse(is_whole(text), text)
 
@@ -57,6 +59,9 @@ class OverTheFakeServer(unittest.TestCase):
         self.assertIn("logic", self.session.theory.project.files)
         with self.assertRaises(Wrong):
             self.session.run("import nothing_of_this_name")
+        with self.assertRaises(Wrong) as wrong:
+            self.session.run("import pair")
+        self.assertEqual(str(wrong.exception), "there is no theory pair; did you mean pairs?")
 
     def test_a_proof_with_steps_back(self):
         self.run_all("g SPLIT `a = a /\\ b = b`", "e CONJ_TAC")
@@ -78,6 +83,18 @@ class OverTheFakeServer(unittest.TestCase):
         self.assertIn("GOAL |- ", self.run_all("top_thm()").text)
         self.assertIn("GOAL2", self.run_all("g `c = c`", "history").text)
 
+    def test_a_theorem_in_one_line_as_hol_light_has_it(self):
+        told = self.run_all("prove (`a = a`, REFL_TAC)", "let MINE = prove(`b = b`, REFL_TAC)", "let AX = new_axiom `c`")
+        self.assertEqual(told.text, "thm AX |- c")
+        with self.assertRaisesRegex(Wrong, "1 goal is left, and no theorem is made; the first one: d = d"):
+            self.session.run("let D = prove (`d = d`, ALL_TAC)")
+        self.assertEqual(self.session.run("let D = prove (`d = e`, REFL_TAC)").refused.number, 17)
+        for line in ("let", "let D", "let D = 3", "let D = prove `d`", "let D = new_axiom"):
+            self.assertIsNotNone(self.session.run(line).refused, line)
+        self.run_all("g `e = e`", "e REFL_TAC", "let E = top_thm()")
+        self.assertEqual([one.name for one in self.session.theory.theorems()], ["GOAL", "MINE", "AX", "E"])
+        self.assertEqual(self.session.run("undo").text, "taken back: 7 commands stand")
+
     def test_undo_opens_the_proof_again_for_another_name(self):
         self.run_all("g `a = a`", "e REFL_TAC", "qed", "undo", "qed MINE")
         self.assertEqual([one.name for one in self.session.theory.theorems()], ["MINE"])
@@ -91,7 +108,7 @@ class OverTheFakeServer(unittest.TestCase):
         self.assertEqual(self.session.run("new_axiom B `b`").refused.number, 10)
         self.run_all("import Base")
         self.assertEqual([one.name for one in self.session.theory.theorems()], ["B", "AX"])
-        with self.assertRaisesRegex(Wrong, "no theory Nothing: there are Base"):
+        with self.assertRaisesRegex(Wrong, "no theory Nothing; there are Base, and those of the library"):
             self.session.run("import Nothing")
         self.run_all("g `c = c`", "e ALL_TAC")
         for line in ("import Base", "new_axiom C `c`", "undo", "g `d = d`"):
@@ -234,12 +251,11 @@ class OverTheProgram(unittest.TestCase):
     def test_a_new_users_first_minutes(self):
         with Prover(str(BUILT), seconds=PATIENT) as prover:
             session = Session(prover, Project.each(prover, str(ROOT / "theories")))
-            self.addCleanup(session.close)
             for line in ("import lists", "g `!l:A list. APPEND l NIL = l`", "e MATCH_MP_TAC LIST_INDUCT THEN BETA_TAC", "e REWRITE_TAC [APPEND_NIL]",
                          "b", "e REWRITE_TAC [APPEND] THEN REPEAT STRIP_TAC", "e ASM_REWRITE_TAC []", "qed APPEND_NIL_AGAIN"):
                 told = session.run(line)
                 self.assertIsNone(told.refused, line)
-            self.assertIn("def:APPEND", told.text)
+            self.assertRegex(told.text, "rests on no axiom of its own and [0-9]+ definitions: basis APPEND_NIL_AGAIN lists them")
             self.assertIn("APPEND_NIL_AGAIN |- ", session.run("search APPEND _ NIL").text)
             self.assertIn("def:APPEND", session.run("basis APPEND_NIL_AGAIN").text)
             session.run("g `p /\\ q ==> q /\\ (p \\/ r)`")
@@ -253,6 +269,32 @@ class OverTheProgram(unittest.TestCase):
             session.run("e CONJ_TAC")
             session.run("r 1")
             self.assertEqual(session.state.goal.conclusion, "Q")
+
+    def test_packages_stand_at_the_prompt_too(self):
+        with Prover(str(BUILT), seconds=PATIENT) as prover, tempfile.TemporaryDirectory() as folder:
+            session = Session(prover, Project.each(prover, str(ROOT / "theories"), str(ROOT / "examples" / "theories" / "course")))
+            for line in ("import packages", "define DOUBLE `DOUBLE 0 = 0 /\\ DOUBLE (SUC n) = SUC (SUC (DOUBLE n))`", "g A `!n. DOUBLE n = n + n`"):
+                told = session.run(line)
+                self.assertIsNone(told.refused, line)
+                self.assertNotIn("pk_", "".join(told.text) if "import" not in line else "")
+            refused = session.run("e INDUCT_ON `zz`").refused
+            self.assertIn("zz", refused.sentence)
+            refused = session.run("e INDUCT_ON `n` THEN REWRITE_TAC [DUOBLE]").refused
+            self.assertEqual((refused.command, refused.sentence), (
+                "e INDUCT_ON `n` THEN REWRITE_TAC [DUOBLE]", "no theorem DUOBLE stands before this command; did you mean DOUBLE?"))
+            self.assertEqual(refused.command[refused.start:refused.end], "DUOBLE")
+            refused = session.run("e DISJ_CASES_TAC (SPEC `n <= n` EXCLUDED_MIDLE);").refused
+            self.assertEqual((refused.command[refused.start:refused.end], refused.sentence), (
+                "EXCLUDED_MIDLE", "no theorem EXCLUDED_MIDLE stands before this command; did you mean EXCLUDED_MIDDLE?"))
+            self.assertIn("gcd_laws has it: import it", session.run("e REWRITE_TAC [GCD_ASSOC]").refused.sentence)
+            with self.assertRaises(Wrong):
+                session.run("e REWRITE_TAC [GSYM ADD_ASSOC]")
+            self.assertIsNone(session.run("e INDUCT_ON `n` THEN REPEAT STRIP_TAC THEN ASM_REWRITE_TAC [DOUBLE; ADD_CLAUSES]").refused)
+            self.assertTrue(session.run("qed").text.startswith("A |- !n. DOUBLE n = n + n"))
+            session.run("save %s/mine" % folder)
+            saved = (pathlib.Path(folder) / "mine.hol").read_text()
+            self.assertIn("define DOUBLE", saved)
+            self.assertIn("\ne INDUCT_ON `n` THEN REPEAT STRIP_TAC THEN ASM_REWRITE_TAC [DOUBLE; ADD_CLAUSES];;\nqed;;\n", saved)
 
 
 if __name__ == "__main__":

@@ -108,6 +108,17 @@ class AsAProgram(unittest.TestCase):
             done = subprocess.run(ask + ["--written", "--json", "infinity"], cwd=folder, capture_output=True, timeout=SECONDS)
             self.assertIn(b'{"file": "prelude", "line": 0, "name": "INFINITY_AX"', done.stdout)
 
+    def test_a_file_of_two_projects_is_searched_once(self):
+        with tempfile.TemporaryDirectory() as name:
+            folder = pathlib.Path(name)
+            for one in ("lib", "mine"):
+                (folder / one).mkdir()
+            (folder / "lib" / "A.hol").write_text("g ONE_THM `x = x`;;\ne REFL_TAC;; qed;;\n")
+            (folder / "mine" / "B.hol").write_text("import A;;\n")
+            (folder / "mine" / "hol-project.json").write_text('{"folders": [".", "../lib"]}')
+            done = subprocess.run([*PYTHON, str(HOLLS), "search", "--written", "one"], cwd=folder, capture_output=True, timeout=SECONDS)
+            self.assertEqual(done.stdout.decode().count("ONE_THM |-"), 1, done.stdout)
+
 
 if __name__ == "__main__":
     unittest.main()

@@ -14,13 +14,14 @@ import ssl
 import subprocess
 import sys
 import tempfile
-import threading
 import time
 import unittest
+import urllib.parse
 import zlib
 
 from holls.course import layout
 from holls.serving import command, usage
+from holls.serving.keeping import Keeping, NotKept, folder_of
 from holls.serving.rates import Bucket, ByAddress
 from holls.serving.watching import Class, from_cookie, name_of, to_cookie
 from holls.websocket import Closed, WebSocket, new_key
@@ -83,12 +84,42 @@ class Parts(unittest.TestCase):
         page = watched.page(["ann"])
         rows = re.findall(r"<tr><td>(.*?)</td></tr>", page)
         self.assertEqual([row.split("</td><td>") for row in rows], [
-            ["ann", "0 of 2", "a: A", "3 min", "x = x"], ["&lt;b&gt; (away)", "1 of 2", "a: B", "1 min", "p &lt; q"]])
+            ["ann", "0 of 2", "a: A", "3 min", "x = x", "2 min"], ["&lt;b&gt; (away)", "1 of 2", "a: B", "1 min", "p &lt; q", "0 min"]])
         watched.hear("ann", [{"file": "a", "proved": ["A", "B"], "open": None, "goal": None}])
-        self.assertIn("<td>ann</td><td>2 of 2</td><td></td><td></td><td></td>", watched.page(["ann"]))
+        self.assertIn("<td>ann</td><td>2 of 2</td><td></td><td></td><td></td><td>3 min</td>", watched.page(["ann"]))
+        now[0] = 4000.0
+        watched.hear("ann", [{"file": "a", "proved": ["A", "B"], "open": None, "goal": None}])
+        self.assertIn("<td>8 min</td>", watched.page(["ann"]))
         for number in range(1000):
             watched.hear(str(number), [])
         self.assertNotIn("<td>ann", watched.page([]))
+
+    def test_students_have_folders_of_their_own_whatever_their_names(self):
+        names = ["Ann", "Zoë", "日本", "a b", "a.b", "a_b", "a/b", "a\\b", "..", ".", "", " ", ".key", "a ", "x" * 60, "日" * 60, "<b>", "a (2)", "CON:", "-x"]
+        names += [folder_of(name) for name in names if folder_of(name) != name]
+        folders = [folder_of(name) for name in names]
+        self.assertEqual(len(set(folders)), len(names))
+        self.assertEqual(folders[:6], ["Ann", "Zoë", "日本", "a b", "a.b", "a_b"])
+        for folder in folders:
+            self.assertTrue(folder and "/" not in folder and not folder.startswith(".") and "(" not in folder and len(os.fsencode(folder)) < 200, folder)
+
+    def test_what_is_kept_has_limits_and_is_written_whole(self):
+        with tempfile.TemporaryDirectory() as room:
+            keeping = Keeping(room, {"a"})
+            keeping.put("ann", "k" * 20, "a", "one \ud800")
+            keeping.put("ann", "k" * 20, "a", "two")
+            self.assertEqual((pathlib.Path(room) / "ann" / "a.hol").read_text(), "two")
+            self.assertEqual(sorted(os.listdir(os.path.join(room, "ann"))), [".key", "a.hol"])
+            for student, file, text in (("ann", "b", "x"), ("ann", "a", "x" * (1 << 20) + "x"), ("ann", "../a", "x")):
+                with self.assertRaises(NotKept):
+                    keeping.put(student, "k" * 20, file, text)
+            for number in range(1, 20):
+                keeping.put("ann", "k" * 20 + str(number), "a", str(number))
+            with self.assertRaises(NotKept):
+                keeping.put("ann", "another key", "a", "x")
+            self.assertEqual(Keeping(room, {"a"}).put("ann", "k" * 20, "a", "three"), None)
+            self.assertEqual((pathlib.Path(room) / "ann" / "a.hol").read_text(), "three")
+            self.assertEqual((pathlib.Path(room) / "ann (20)" / "a.hol").read_text(), "19")
 
     def test_a_name_comes_back_from_its_cookie(self):
         for name in ("Ann", "Zoë; x=1", "<b>\"", "日本"):
@@ -125,9 +156,10 @@ class Served(unittest.TestCase):
         self.room = pathlib.Path(room.name)
         self.log = self.room / "log"
 
-    def serve(self, *words):
-        command = [python(), str(HOLLS), "serve", str(COURSE), "--port", "0", "--server", fake(self.room, "--log", self.log), *words]
-        self.process = subprocess.Popen(command, stdout=subprocess.PIPE, stderr=subprocess.PIPE)
+    def serve(self, *words, program=None):
+        command = [python(), str(HOLLS), "serve", str(COURSE), "--port", "0", "--server", program or fake(self.room, "--log", self.log), *words]
+        with open(self.room / "said", "ab") as said:
+            self.process = subprocess.Popen(command, stdout=subprocess.PIPE, stderr=said)
         self.addCleanup(self.process.communicate)
         self.addCleanup(self.process.terminate)
         told = self.process.stdout.readline().decode()
@@ -136,15 +168,21 @@ class Served(unittest.TestCase):
     def get(self, path, method="GET", **headers):
         connection = http.client.HTTPConnection(self.host, timeout=SECONDS)
         self.addCleanup(connection.close)
-        connection.request(method, path, headers={name.replace("_", "-"): value for name, value in headers.items()})
+        connection.request(method, path, headers=dict({name.replace("_", "-"): value for name, value in headers.items()}, Connection="close"))
         return connection.getresponse()
+
+    def connect(self):
+        """A connection that asks nothing yet."""
+        address, port = self.host.split(":")
+        connection = socket.create_connection((address, int(port)), timeout=SECONDS)
+        self.addCleanup(self.let_go, connection)
+        return connection
 
     def socket(self, **headers):
         """A page's socket, or the status where there is none."""
-        address, port = self.host.split(":")
-        connection = socket.create_connection((address, int(port)), timeout=SECONDS)
+        connection = self.connect()
         reader, writer = connection.makefile("rb"), connection.makefile("wb")
-        for one in (connection, reader, writer):
+        for one in (reader, writer):
             self.addCleanup(self.let_go, one)
         sent = dict({"Host": self.host, "Upgrade": "websocket", "Connection": "Upgrade", "Origin": "http://" + self.host, "Sec-WebSocket-Version": "13",
                      "Sec-WebSocket-Key": new_key()}, **{name.replace("_", "-"): value for name, value in headers.items()})
@@ -175,6 +213,30 @@ class Served(unittest.TestCase):
         while not test():
             self.assertLess(time.monotonic(), end, "it didn't come about")
             time.sleep(0.05)
+
+    def kilobytes(self):
+        """The memory of the server's own process."""
+        with open("/proc/%d/status" % self.process.pid) as stream:
+            return next(int(line.split()[1]) for line in stream if line.startswith("VmRSS"))
+
+    def files(self):
+        """How many files the server has open."""
+        return len(os.listdir("/proc/%d/fd" % self.process.pid))
+
+    def children(self):
+        """The processes that the server's nursery has, which are its bridges, and what these run."""
+        nursery = self.below(self.process.pid)
+        return [one for process in nursery for one in self.below(process)]
+
+    @staticmethod
+    def below(process):
+        with open("/proc/%s/task/%s/children" % (process, process)) as stream:
+            return stream.read().split()
+
+    def named(self, name):
+        """The cookies of a browser in which a name was given."""
+        answer = self.get("/course?name=" + urllib.parse.quote(name))
+        return "; ".join(value.split(";")[0] for field, value in answer.getheaders() if field == "Set-Cookie")
 
     def programs(self):
         """How many programs run."""
@@ -209,10 +271,9 @@ class Serve(Served):
 
     def test_a_teacher_sees_who_is_where_and_nobody_else_does(self):
         self.serve("--teacher-key", "secret")
-        answer = self.get("/course?name=Zo%C3%AB%20%3Cb%3E")
-        cookie = answer.getheader("Set-Cookie").split(";")[0]
-        self.assertIn('value="Zoë &lt;b&gt;"', answer.read().decode())
-        editor = Editor(self.socket(Cookie=cookie))
+        cookies = self.named("Zoë <b>")
+        self.assertIn('value="Zoë &lt;b&gt;"', self.get("/course", Cookie=cookies).read().decode())
+        editor = Editor(self.socket(Cookie=cookies))
         editor.open("equations", "import week;;\ng SAME `x = x`;;\ne REFL_TAC;;\nqed;;\ng TWO `f x = f x`;;\ne ALL_TAC;;\n")
         editor.said("equations")
         end = time.monotonic() + SECONDS
@@ -221,10 +282,88 @@ class Serve(Served):
             time.sleep(0.2)
             row = "".join(re.findall("<tr><td>Zo.*?</tr>", self.get("/teacher/secret").read().decode()))
         self.assertEqual(re.findall("<td>(.*?)</td>", row), [
-            "Zoë &lt;b&gt;", "0 of 4", "1 of 3", "0 of 3", "equations: TWO", "0 min", "f x = f x"])
+            "Zoë &lt;b&gt;", "0 of 4", "1 of 3", "0 of 3", "equations: TWO", "0 min", "f x = f x", "0 min"])
         self.assertFalse(any(one.get("method") == "$/hol/course" for one in editor.told))
         for path in ("/teacher/", "/teacher/other", "/teacher", "/teacher/secret/x"):
             self.assertEqual(self.get(path).status, 404, path)
+
+    def test_what_is_written_is_kept_where_a_teacher_names_a_folder_and_nobody_writes_over_another_s(self):
+        work = self.room / "work"
+        (work / "ben").mkdir(parents=True)
+        (work / "ben" / "equations.hol").write_text("what ben sent by mail")
+        self.serve("--keep", str(work), "--ahead", "0")
+        texts = ["g SAME%d `x = x`;;\ne REFL_TAC;;\nqed;;\n" % number for number in range(3)]
+        cookies = [self.named("ann"), self.named("ann"), self.named("ben"), self.named("../<b>")]
+        for number, cookie in enumerate([*cookies, ""]):
+            editor = Editor(self.socket(Cookie=cookie))
+            for version, text in enumerate(texts):
+                editor.open("equations", "import week;;\n(* of %d *)\n%s" % (number, text))
+                self.assertEqual(editor.said("equations"), [])
+            editor.open("diary", "(* not a file of the course *)")
+            editor.said("diary")
+            editor.socket.close()
+
+        def kept():
+            return {str(path.relative_to(work)): path.read_text().split("\n")[1:3] for path in work.glob("*/*.hol") if "import" in path.read_text()}
+        last = texts[-1].split("\n")[0]
+        marked = folder_of("../<b>")
+        self.until(lambda: len(kept()) == 4 and all(lines[1] == last for lines in kept().values()))
+        self.assertEqual(kept(), {
+            "%s/equations.hol" % folder: ["(* of %d *)" % number, last]
+            for number, folder in enumerate(["ann", "ann (2)", "ben (2)", marked])})
+        self.assertEqual((work / "ben" / "equations.hol").read_text(), "what ben sent by mail")
+        self.assertEqual({path.name for path in work.iterdir()}, {"ann", "ann (2)", "ben", "ben (2)", marked})
+        self.assertEqual({path.name for path in (work / "ann").iterdir()}, {"equations.hol", ".key"})
+        said = (self.room / "said").read_text()
+        self.assertIn("page 1 of 127.0.0.1 begins; 1 are open", said)
+        for word in ("SAME", "ann", "ben", "diary"):
+            self.assertNotIn(word, said)
+
+    def test_a_program_that_waits_has_run_what_the_exercises_import(self):
+        self.serve("--ahead", "1", "--sessions", "1")
+        self.until(lambda: any("TWICE" in text for text in self.asked("insert")) and not self.is_busy())
+        before = len(self.asked("insert"))
+        editor = Editor(self.socket())
+        editor.open("equations", "import week;;\ng SAME `x = x`;;\ne REFL_TAC;;\nqed;;\n")
+        self.assertEqual(editor.said("equations"), [])
+        self.assertEqual(self.asked("new_theory").count("week"), 1)
+        self.assertEqual(len(self.asked("insert")) - before, 4)
+
+    def test_a_page_has_so_many_files_at_most(self):
+        self.serve("--files", "3")
+        editor = Editor(self.socket())
+        for name in ("A", "B", "C", "D"):
+            editor.open(name, "g N `x = x`;;\n")
+        self.assertIn("the proof of N isn't ended yet", editor.said("C")[-1])
+        refused = editor.ask("proof/goals", textDocument={"uri": "hol:/D.hol", "version": 0}, position={"line": 0, "character": 1})
+        self.assertEqual(refused["message"], "the document isn't open")
+        self.assertIn("3 files are open, and there may be no more: close one",
+                      [one["params"]["message"] for one in editor.told if one.get("method") == "window/showMessage"])
+
+    @unittest.skipUnless(shutil.which("pgrep"), "pgrep isn't installed")
+    def test_a_page_that_dozes_has_no_program_until_something_is_done(self):
+        self.serve("--doze", "1", "--ahead", "0")
+        editor = Editor(self.socket())
+        editor.open("A", "g N `x = x`;;\ne ALL_TAC;;\n")
+        editor.said("A")
+        self.until(lambda: self.programs() == 0)
+        where = {"textDocument": {"uri": "hol:/A.hol", "version": 0}, "position": {"line": 1, "character": 3}}
+        self.assertIn("x = x", json.dumps(editor.ask("proof/goals", **where)))
+        self.assertEqual(self.asked("new_theory"), ["A"])
+        editor.tell("textDocument/didChange", textDocument={"uri": "hol:/A.hol", "version": 1}, contentChanges=[{"text": "g N `y = y`;;\ne REFL_TAC;;\nqed;;\n"}])
+        self.assertEqual(editor.said("A"), [])
+        self.assertEqual(self.asked("new_theory"), ["A", "A"])
+
+    def asked(self, op):
+        """The texts, or names, of some requests, in their order."""
+        lines = [json.loads(line) for line in self.log.read_text().splitlines()] if self.log.exists() else []
+        return [one.get("text", one.get("name")) for one in lines if one["op"] == op]
+
+    def is_busy(self):
+        """Whether something is asked just now."""
+        before = self.log.stat().st_size
+        time.sleep(1)
+        return self.log.stat().st_size > before
 
     def test_sessions_have_limits_that_are_told(self):
         self.serve("--sessions", "3", "--each", "2", "--behind-proxy")
@@ -246,7 +385,7 @@ class Serve(Served):
 
     @unittest.skipUnless(shutil.which("pgrep") and os.path.isdir("/proc/self"), "pgrep or /proc isn't here")
     def test_what_uses_too_much_is_ended_with_its_program_and_told_why(self):
-        self.serve("--processor", "1")
+        self.serve("--processor", "1", "--ahead", "0")
         page = self.socket()
         editor = Editor(page)
         editor.open("A", "g N `x = x`;;\ne REFL_TAC;;\n" * 400)
@@ -263,7 +402,7 @@ class Serve(Served):
         for end in ("page", signal.SIGTERM, signal.SIGKILL):
             with self.subTest(end):
                 self.log = self.room / ("log%s" % end)
-                self.serve()
+                self.serve("--ahead", "0" if end == "page" else "2")
                 editor = Editor(self.socket())
                 editor.open("A", "g N `loop`;;\ne HANG_TAC;;\n")
                 self.until(lambda: self.log.is_file() and "HANG_TAC" in self.log.read_text())
@@ -275,64 +414,6 @@ class Serve(Served):
                 self.until(lambda: not self.programs())
                 if end == signal.SIGTERM:
                     self.assertEqual(self.process.wait(SECONDS), 0)
-
-    def test_a_class_of_twenty_with_three_hostile_pages(self):
-        """Seventeen type a key again and again and see their goals, whatever the three do."""
-        self.serve("--sessions", "20")
-        over = threading.Event()
-        hostile = [threading.Thread(target=work, args=(over,), daemon=True) for work in (self.flood, self.unread, self.too_long)]
-        pages = [Editor(self.socket()) for _ in range(17)]
-        for one in hostile:
-            one.start()
-        for number, one in enumerate(pages):
-            one.open("E%d" % number, "g N `x = x`;;\ne REFL_TAC;;\nqed;;\n")
-        for version in range(1, 4):
-            for number, one in enumerate(pages):
-                one.tell("textDocument/didChange", textDocument={"uri": "hol:/E%d.hol" % number, "version": version},
-                         contentChanges=[{"text": "g N%d `x = x`;;\ne REFL_TAC;;\nqed;;\n" % version}])
-        for number, one in enumerate(pages):
-            self.assertEqual(one.said("E%d" % number), [])
-            goals = one.ask("proof/goals", textDocument={"uri": "hol:/E%d.hol" % number, "version": 3}, position={"line": 0, "character": 3})
-            self.assertIn("x = x", json.dumps(goals))
-        over.set()
-        for one in hostile:
-            one.join(SECONDS)
-        self.assertIsNone(self.process.poll())
-
-    def flood(self, over):
-        """Changes a long text as fast as it can."""
-        try:
-            page = Editor(self.socket())
-            page.open("F", "")
-            version = 0
-            while not over.is_set():
-                version += 1
-                page.tell("textDocument/didChange", textDocument={"uri": "hol:/F.hol", "version": version},
-                          contentChanges=[{"text": "g F%d `x = x`;;\n" % version * 2000}])
-        except (Closed, OSError):
-            pass
-
-    def unread(self, over):
-        """Asks, and reads no answer."""
-        page = self.socket()
-        Editor(page)
-        page._writer.raw._sock.settimeout(1)
-        while not over.is_set():
-            try:
-                page.send(b'{"jsonrpc":"2.0","id":1,"method":"hol/manual","params":{}}')
-            except OSError:
-                time.sleep(0.1)
-
-    def too_long(self, over):
-        """Sends messages of more than is taken, again and again."""
-        while not over.is_set():
-            try:
-                page = self.socket()
-                if isinstance(page, WebSocket):
-                    page.send(b"[" * (5 << 20))
-            except (Closed, OSError):
-                pass
-            time.sleep(0.5)
 
     def test_a_message_that_is_too_long_ends_its_session_alone(self):
         self.serve()
@@ -349,7 +430,8 @@ class Serve(Served):
         self.assertIsInstance(other.ask("hol/manual"), dict)
 
     def test_words_that_fail(self):
-        for words, told in ((["--sessions", "0"], b"--sessions takes a number from 1"), (["--origin", "hol.example.edu"], b"--origin hol.example.edu"),
+        for words, told in ((["--sessions", "0"], b"--sessions takes a number from 1"), (["--ahead", "-1"], b"--ahead a number from 0"),
+                            (["--keep", "work"], b"name the course"), (["--origin", "hol.example.edu"], b"--origin hol.example.edu"),
                             (["--server", "/no/such"], b"no program is at"), ([str(self.room)], b"a course's exercises stand there")):
             given = words if "--server" in words else [*words, "--server", fake(self.room)]
             ran = subprocess.run([python(), str(HOLLS), "serve", *given], capture_output=True, timeout=SECONDS)

@@ -8,15 +8,16 @@ import unittest
 from tests.helpers import BUILT, HOLLS, PYTHON, SECONDS
 
 SLIPS = (
-    ("new_definition Q `len (x:A) = len x`;;", "1:1: error: len stands on its own right side: a definition can't be recursive"),
+    ("new_definition Q `len (x:A) = len x`;;", "1:1: error: len stands on its own right side: new_definition can't be recursive"),
     ("new_definition Q `len (x:A) = f x`;;", "1:1: error: f is free in what is defined: make it an argument of the constant"),
     ("new_constant f `:A->A`;; new_axiom GROW `!x:A. x = f x`;;\ng A `(y:A) = z`;;\ne REWRITE_TAC [GROW];;\noops;;",
      "3:1: error: too large: a term here or a term that a function makes has over 20,000 nodes"),
     ("new_axiom COMM `!x y. x /\\ y <=> y /\\ x`;;\ng A `a /\\ b`;;\ne REWRITE_TAC [COMM];;\noops;;",
-     "3:1: error: the turn limit was reached: a function doesn't end (rewriting? ONCE_REWRITE_TAC,"),
+     "3:1: error: the turn limit was reached: a tactic doesn't end (rewriting? ONCE_REWRITE_TAC,"),
     ("g A `T`;;\n// comment\ne ACCEPT_TAC TRUTH;;\nqed;;", "2:1: error: `//` begins no command; comments are (* .. *)"),
     ("g A `T`;;\ne ACCEPT_TAC TRUTH\nqed;;", "3:1: error: a `;;` is missing before `qed`"),
     ("g A `T`;;\ne ACCEPT_TAC (SPEC `x` REFL_CLAUSE);;\noops;;", "2:15: error: SPEC doesn't fit what it is given: it wants a theorem !x. p"),
+    ("g A `T`;;\ne ASM_REWRITE [];;\noops;;", "2:3: error: there is no tactic ASM_REWRITE; did you mean ASM_REWRITE_TAC?"),
     ("g A `1 + 1 = 2`;;", "1:6: error: unexpected `1`; numerals are notation"),
     ("g A `x + y = z`;;", "1:8: error: `+` begins no symbol of the notation; operators are notation"),
     ("new_type set A;;", "1:14: error: unexpected `A`; expected new_type NAME NUM"),

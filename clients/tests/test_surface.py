@@ -1,11 +1,14 @@
 """Notation: what is read, what is printed, there and back, places, errors, declarations."""
 
+import argparse
 import functools
 import json
 import pathlib
 import random
 import re
+import shutil
 import subprocess
+import tempfile
 import unittest
 
 from holls import check, spelling
@@ -131,6 +134,14 @@ def sent(text, table=TABLE, vocabulary=VOCABULARY):
 def theories():
     """The files of theories/, each knowing what it imports. No test changes them."""
     return [file for files in check.ordered([str(ROOT / "theories")]).values() for file in files]
+
+
+def closed_under_imports(names):
+    """Some theories with those that they import, in an order in which each comes after its imports."""
+    found = set(names)
+    for file in reversed(theories()):
+        found |= set(file.imports) if file.name in found else set()
+    return [file.name for file in theories() if file.name in found]
 
 
 def asking(lines):
@@ -277,6 +288,27 @@ class ThereAndBack(unittest.TestCase):
             sent_of_it = [" ".join(command.text.split()) for number, command in enumerate(file.commands) if not file.is_declaration(number)]
             self.assertEqual([" ".join(command.text.split()) for command in cut(text).commands], sent_of_it)
 
+    def test_expand_and_write_of_all_theories_undo_each_other(self):
+        with tempfile.TemporaryDirectory() as room:
+            paths = [shutil.copy(str(ROOT / "theories" / (file.name + ".hol")), room) for file in theories()]
+            plain = self.spelled("expand", paths)
+            written = self.spelled("write", paths)
+            again = self.spelled("expand", paths)
+        for file in theories():
+            self.assertEqual(again[file.name], plain[file.name], file.name)
+        same = [file.name for file in theories() if written[file.name] == self.squeezed(file.lines.text)]
+        self.assertGreater(len(same), 25)  # Others have packages, whose commands stay, or spell something as the program does.
+
+    def spelled(self, kind, paths):
+        """The commands of files that are written in another form in their place, by their theories' names."""
+        self.assertEqual(spelling.main(argparse.Namespace(kind=kind, files=paths, in_place=True)), 0)
+        return {pathlib.Path(path).stem: self.squeezed(pathlib.Path(path).read_text()) for path in paths}
+
+    @staticmethod
+    def squeezed(text):
+        """A file's commands without white space and parentheses."""
+        return [re.sub(r"[\s()]", "", command.text) for command in cut(text).commands]
+
     @staticmethod
     def bare(text, word):
         """A command with its quotations as trees; of a definition's, what stands behind its `=`."""
@@ -287,7 +319,7 @@ class ThereAndBack(unittest.TestCase):
                 body = "x" + body
             elif word == "new_definition":
                 head, equals, body = re.split(r"(<=>|(?<![<=>])=(?![=>]))", body, 1)
-                parts[at - 1] += "".join(head.split()) + equals
+                parts[at - 1] += re.sub(r"[\s()]", "", head) + equals
             parts[at] = tree.bare(read(body, EMPTY, None))
         return parts
 
@@ -331,7 +363,9 @@ class HolLight(unittest.TestCase):
 
     @unittest.skipUnless(BUILT.is_file(), "hol_serve isn't built")
     def test_the_library_s_theorems_of_their_names_prove_them(self):
-        lines, steps = self.library()
+        named = {name for name, _ in STATEMENTS}
+        needed = closed_under_imports({file.name for file in theories() if any(command.name in named for command in file.commands)})
+        lines, steps = self.library(needed)
         place, closed = 0, {}
 
         def put(text):
@@ -340,8 +374,8 @@ class HolLight(unittest.TestCase):
             place += 1
 
         lines.append({"op": "new_theory", "name": "statements", "at": steps})
-        for path in sorted((ROOT / "theories").glob("*.hol")):
-            put("import " + path.stem)
+        for name in needed:
+            put("import " + name)
         for number, (name, statement) in enumerate(STATEMENTS):
             put("g S%d `%s`" % (number, sent(statement)))
             lines.append({"op": "report", "theory": "statements", "at": place - 1})
@@ -359,9 +393,9 @@ class HolLight(unittest.TestCase):
         self.assertGreaterEqual(proved, 40)
 
     @staticmethod
-    def library():
-        """The lines that put the library into a server, and how many theories it has."""
-        files, lines = theories(), []
+    def library(names=None):
+        """The lines that put the library, or some theories of it, into a server, and how many these are."""
+        files, lines = [file for file in theories() if names is None or file.name in names], []
         for at, file in enumerate(files):
             lines.append({"op": "new_theory", "name": file.name, "at": at})
             texts = [entry.text for entry in file.theory.entries]

@@ -64,10 +64,28 @@ class Cutting(unittest.TestCase):
                 shown = [(at, character) for at, character in enumerate(command.text) if character in "abcé`"]
                 self.assertTrue(all(text[command.place(at)] == character for at, character in shown), (text, command))
 
+    def test_what_stays_of_an_edited_file_is_cut_as_it_is_afresh(self):
+        source = random.Random(5)
+        pieces = ["g A `p`;;\n", "e X;;", ";;", ";", "(*", "*)", "(* c *)", " ", "\n", "∀x. ∃!", "é", "\ufeff", "e ", "`", "\ud800", "qed;;\n"]
+        text, before = "", cut("")
+        for _ in range(2500):
+            start = source.randrange(len(text) + 1)
+            end = min(len(text), start + source.choice((0, 0, 1, 3, 9)))
+            old, text = text, text[:start] + "".join(source.choices(pieces, k=source.randrange(4))) + text[end:]
+            text = text[:400] if source.random() < 0.99 else ""
+            before = cut(text, old, before)
+            self.assertEqual(parts(before), parts(cut(text)), (old, text))
+
     def test_takes_below_20_ms_for_1000_commands(self):
         source = proofs(250)
         best = min(_seconds(lambda: difference(texts(source), texts(source) + ["qed"])) for _ in range(9))
         self.assertLess(best / 2, 0.020)
+
+
+def parts(found):
+    """What a cut file consists of."""
+    commands = [(command.text, command.start, command.end, command.marks, command.word, command.name) for command in found.commands]
+    return commands, found.comments, sorted(found.blemishes, key=lambda one: (one.start, one.text)), found.pieces
 
 
 def _seconds(work):
@@ -85,8 +103,8 @@ class Places(unittest.TestCase):
         self.assertEqual((lines.place(0, 99), lines.place(9, 0), lines.place(2, 1)), (2, 8, 8))
 
     def test_changes_a_range(self):
-        self.assertEqual(places.changed("ab\ncd", (0, 1), (1, 1), "X\n"), "aX\nd")
-        self.assertEqual(places.changed("a😀b", (0, 3), (0, 4), ""), "a😀")
+        self.assertEqual(places.changed(places.Lines("ab\ncd"), (0, 1), (1, 1), "X\n"), ("aX\nd", 3))
+        self.assertEqual(places.changed(places.Lines("a😀b"), (0, 3), (0, 4), ""), ("a😀", 2))
 
 
 class Differences(unittest.TestCase):

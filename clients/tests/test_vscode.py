@@ -7,6 +7,7 @@ import shutil
 import subprocess
 import tempfile
 import unittest
+import zipfile
 
 from tests.helpers import CLIENTS, HOLLS, PYTHON, SECONDS, fake
 
@@ -18,12 +19,29 @@ class InVSCode(unittest.TestCase):
     def test_what_a_user_does(self):
         with tempfile.TemporaryDirectory() as name:
             program = fake(pathlib.Path(name))
-            command = [*PYTHON, str(HOLLS), "lsp", "--server", program]
-            given = dict(os.environ, COMMAND=json.dumps(command), TEXT="g A `p /\\ q`;;\ne CONJ_TAC;;\ne FOO_TAC;;\n")
-            done = subprocess.run([NODE, str(CLIENTS / "tests" / "vscode.js")], env=given, capture_output=True, timeout=SECONDS)
+            self.run_over(CLIENTS / "vscode", {"command": [*PYTHON, str(HOLLS), "lsp", "--server", program]})
+
+    def test_as_it_is_installed(self):
+        """From the package that EDITORS has one make, with the bridge that it takes along and the program that a setting names."""
+        with tempfile.TemporaryDirectory() as name:
+            folder = pathlib.Path(name)
+            made = folder / "hol-serve.vsix"
+            subprocess.run([*PYTHON, str(CLIENTS / "vscode" / "package"), str(made)], check=True, capture_output=True, timeout=SECONDS)
+            with zipfile.ZipFile(made) as package:
+                package.extractall(folder)
+            self.run_over(folder / "extension", {"server": fake(folder)})
+
+    def run_over(self, folder, settings):
+        """What is seen where the extension in a folder is used."""
+        given = dict(os.environ, EXTENSION=str(folder), SETTINGS=json.dumps(settings), TEXT="g A `p /\\ q`;;\ne CONJ_TAC;;\ne FOO_TAC;;\n")
+        done = subprocess.run([NODE, str(CLIENTS / "tests" / "vscode.js")], env=given, capture_output=True, timeout=SECONDS)
         self.assertEqual(done.returncode, 0, done.stderr.decode())
         found = json.loads(done.stdout)
-        self.assertEqual(found["before"], [[2, 0, "there is no function on goals FOO_TAC"]])
+        about = json.loads((folder / "package.json").read_text())
+        self.assertEqual(sorted(set(found["commands"])), sorted(one["command"] for one in about["contributes"]["commands"]))
+        self.assertEqual({"onLanguage:hol", *("onCommand:" + name for name in found["commands"])}, set(about["activationEvents"]))
+        self.assertLessEqual({one["command"] for one in about["contributes"]["keybindings"]}, set(found["commands"]))
+        self.assertEqual(found["before"], [[2, 0, "there is no tactic FOO_TAC"]])
         self.assertTrue(found["goals"].startswith("goal 1 of 2\n  p : bool\n"))
         self.assertEqual(found["plain"], found["goals"])
         self.assertEqual(found["after"], [[0, 2, "the proof of A isn't ended yet: add qed;; or oops;;"]])

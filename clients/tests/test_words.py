@@ -4,7 +4,9 @@ import re
 import unittest
 
 from holls import notation
-from holls.protocol import Refusal
+from holls.files import File
+from holls.lsp import goals
+from holls.protocol import Goal, Goals, Refusal
 from holls.words import explain
 from tests.helpers import ROOT
 
@@ -22,8 +24,8 @@ class OfDefinitions(unittest.TestCase):
 
     def test_a_recursive_one(self):
         for text in ("new_definition Q `len (x:A) = len x`", "new_definition Q `len = len`", "new_definition Q\n` len x <=> !y. len y`"):
-            self.assertIn("len stands on its own right side: a definition can't be recursive", said(text, 11, "len"))
-        self.assertIn("Definitions by recursion", (ROOT / "theories" / "README.md").read_text(encoding="utf-8"))
+            self.assertIn("len stands on its own right side: new_definition can't be recursive; define makes functions by clauses", said(text, 11, "len"))
+        self.assertTrue((ROOT / "docs" / "PACKAGES.md").is_file())
         self.assertEqual(said("new_definition Q `len (x:A) = f x`", 11, "f"), "f is free in what is defined: make it an argument of the constant")
         self.assertIn("has to be closed", said("new_basic_type_definition ty abs rep N N TH", 11, "rep"))
 
@@ -39,7 +41,16 @@ class OfImports(unittest.TestCase):
     def test_a_clash_says_what_of_which_kind(self):
         self.assertIn("gives the theorem TH another value", said("import A", 21, "thm:TH"))
         self.assertIn("gives the constant c another value", said("import A", 21, "const:c"))
-        self.assertIn("gives the function on goals CL another value", said("import A", 21, "tac:CL"))
+        self.assertIn("gives the tactic CL another value", said("import A", 21, "tac:CL"))
+
+
+class InTheGoalWindow(unittest.TestCase):
+    def test_the_name_that_was_meant_is_told_there_too(self):
+        file = File("A.hol")
+        file.take("g A `T`;;\ne ACCEPT_TAC TRUT;;\n")
+        file.theory.entries[0].report = Goals((Goal((), (), "T"),))
+        file.theory.entries[1].report = Refusal(5, "TRUT", "")
+        self.assertEqual(goals.state(file, 1).errors, ["refused: no theorem TRUT stands before this command; did you mean TRUTH?"])
 
 
 class OfNamedFunctions(unittest.TestCase):
@@ -48,18 +59,18 @@ class OfNamedFunctions(unittest.TestCase):
         return start, text[start:end], words
 
     def test_the_name_and_its_expression(self):
-        self.assertEqual(said("deftac REFL_TAC ALL_TAC", 10, "tac:REFL_TAC"), "the function on goals REFL_TAC stands already: choose another name")
-        self.assertEqual(self.marked("deftac CL TRY CL", 10, "tac:CL"), (7, "CL", "the function on goals CL stands already: choose another name"))
-        self.assertEqual(self.marked("deftac CL CL", 6, "CL"), (10, "CL", "there is no function on goals CL"))
+        self.assertEqual(said("deftac REFL_TAC ALL_TAC", 10, "tac:REFL_TAC"), "the tactic REFL_TAC stands already: choose another name")
+        self.assertEqual(self.marked("deftac CL TRY CL", 10, "tac:CL"), (7, "CL", "the tactic CL stands already: choose another name"))
+        self.assertEqual(self.marked("deftac CL CL", 6, "CL"), (10, "CL", "there is no tactic CL"))
         self.assertEqual(self.marked("deftac CL ACCEPT_TAC CL", 5, "CL")[0], 21)
         self.assertIn("the expression with its terms", said("deftac D14 D13 THEN D13", 13, ""))
         self.assertNotIn("the expression", said("g A `p`", 13, ""))
 
     def test_it_takes_no_arguments_and_no_theorem(self):
         for text in ("e CL TRUTH", "e CL `x`", "e CL []", "e CONJ_TAC THEN CL TRUTH", "e DISCH_THEN CL", "e DISCH_THEN (CL)", "e CL (TRUTH)", "e SUBGOAL_THEN `p` CL"):
-            self.assertEqual(self.marked(text, 6, "CL")[1:], ("CL", "no function on goals CL takes arguments: what deftac names takes none"))
+            self.assertEqual(self.marked(text, 6, "CL")[1:], ("CL", "no tactic CL takes arguments: what deftac names takes none"))
         for text in ("e CL", "e CL THEN CL", "e TRY (CL THENL [])", "e (CL) ORELSE CL"):
-            self.assertEqual(said(text, 6, "CL"), "there is no function on goals CL")
+            self.assertEqual(said(text, 6, "CL"), "there is no tactic CL")
 
     def test_what_is_refused_inside(self):
         found = self.marked("e CONJ_TAC THEN CL", 17, "ACCEPT_TAC")
@@ -109,7 +120,7 @@ class OfSlips(unittest.TestCase):
 
     def test_functions_and_rules_of_hol_light_that_are_not_here(self):
         self.assertIn("HOL Light's MESON_TAC isn't here", said("e MESON_TAC []", 6, "MESON_TAC"))
-        self.assertIn("ASM_REWRITE_TAC rewrites", said("e ASM_SIMP_TAC []", 6, "ASM_SIMP_TAC"))
+        self.assertIn("puts those of a proof in its place", said("e ASM_SIMP_TAC []", 6, "ASM_SIMP_TAC"))
         word, words = self.marked("e REWRITE_TAC[GSYM FOO]", 1, "19")
         self.assertEqual((word, "is none of the forward rules" in words, "(SYM (SPEC" in words), ("GSYM", True, True))
         self.assertIn("stand apart by `;`", said("e REWRITE_TAC [ONE TWO]", 1, "19"))

@@ -5,11 +5,13 @@ const Module = require('module');
 const path = require('path');
 
 const SECONDS = 240;
-const [command, text] = [JSON.parse(process.env.COMMAND), process.env.TEXT];
+const [text, folder] = [process.env.TEXT, process.env.EXTENSION];
+const about = require(path.join(folder, 'package.json'));
+const given = JSON.parse(process.env.SETTINGS);
 const providers = {};
 const events = {};
 const shown = [];
-let settings = { command };
+let settings = given;
 let query = 'infinity';
 
 class Position { constructor(line, character) { Object.assign(this, { line, character }); } }
@@ -32,7 +34,7 @@ const file = {
   getText() { return this.text; }, lineAt(line) { return { text: this.text.split('\n')[line] }; },
 };
 const goals = { document: { uri: Uri.parse('hol-goals:goals'), languageId: 'plaintext' } };
-const results = { searched: [] };
+const results = { searched: [], commands: [] };
 const typed = [];
 const editor = {
   document: file, setDecorations: (kind, ranges) => { results.unknown = ranges.length; },
@@ -62,7 +64,7 @@ const vscode = {
     registerSignatureHelpProvider: (language, provider) => { providers.signature = provider; return { dispose() {} }; },
   },
   workspace: {
-    getConfiguration: () => ({ get: (key) => settings[key] }), textDocuments: [file], openTextDocument: async () => goals.document,
+    getConfiguration: (section) => ({ get: (key) => setting(`${section}.${key}`, key) }), textDocuments: [file], openTextDocument: async () => goals.document,
     registerTextDocumentContentProvider: register('goals'), onDidOpenTextDocument: on('open'), onDidChangeTextDocument: on('change'),
     onDidCloseTextDocument: on('close'), onDidChangeConfiguration: on('configuration'), onDidSaveTextDocument: on('save'),
   },
@@ -73,12 +75,19 @@ const vscode = {
     showErrorMessage: (message) => shown.push(message), onDidChangeTextEditorSelection: on('selection'),
     onDidChangeTextEditorVisibleRanges: on('visible'), onDidChangeActiveTextEditor: on('active'),
   },
-  commands: { registerCommand: (name, work) => { providers[name] = work; return { dispose() {} }; } },
+  commands: { registerCommand: (name, work) => { providers[name] = work; results.commands.push(name); return { dispose() {} }; } },
 };
+
+// What a setting is: as it was set, or by what the extension's manifest says of it.
+function setting(name, key) {
+  const declared = about.contributes.configuration.properties[name];
+  if (!declared) throw new Error(`the manifest has no setting ${name}`);
+  return key in settings ? settings[key] : declared.default;
+}
 
 const load = Module._load;
 Module._load = (name, ...rest) => (name === 'vscode' ? vscode : load(name, ...rest));
-const extension = require(path.join(__dirname, '..', 'vscode', 'extension.js'));
+const extension = require(path.join(folder, about.main));
 
 async function until(holds) {
   const end = Date.now() + SECONDS * 1000;
@@ -119,7 +128,7 @@ async function run() {
   await providers['holls.search']();
   query = '_ ==> P (_)';
   await providers['holls.searchConclusions']();
-  settings.symbols = true;
+  settings = { ...given, symbols: true };
   file.version = 4;
   file.text = 'g A `p /\\and \\forall ';
   for (const at of [12, 20]) events.change({ document: file, contentChanges: [{ range: new Range(0, at, 0, at), text: ' ' }] });
@@ -131,7 +140,7 @@ async function run() {
   await extension.activate({ subscriptions: [] });
   await until(() => shown.length === 1);
   results.shown = shown;
-  settings = { command };
+  settings = given;
   events.configuration({ affectsConfiguration: (name) => name === 'holls.command' });
   await until(() => said().length);
   process.stdout.write(JSON.stringify(results));

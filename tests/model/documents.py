@@ -30,7 +30,7 @@ class Running:
 
     def __init__(self, theory, written, earlier, turns, observed):
         self.theory, self.written, self.earlier, self.turns, self.observed = theory, written, earlier, turns, observed
-        self.word, self.resolved, self.reads = written[0], Resolved(theory), None
+        self.word, self.resolved, self.reads = written[0], Resolved(theory, written[1] if written[0] == "deftac" else None), None
 
     def report(self):
         makes = self.makes()

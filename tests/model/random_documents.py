@@ -205,7 +205,8 @@ def faults(rng, turns):
     texts = [*ladder(), "deftac OK ALL_TAC", "deftac NG OK THENL []", "deftac NH MP_TAC (ASSUME `z:bool`)", "new_axiom GX `!x:bool. x ==> x`"]
     texts += rng.choice([[], ["new_type t 1", "new_type u 0"], ["new_type u 2"]])
     for _ in range(12):
-        texts.append(f"deftac {rng.choice(['NN', 'NN', f'N{rng.randrange(99)}', 'OK', 'ALL_TAC', 'MP_TAC', 'TRUTH'])} {faulty(rng, rng.choice([1, 2, 2, 3, 4]))}")
+        name = rng.choice(["NN", "NN", f"N{rng.randrange(99)}", "OK", "ALL_TAC", "MP_TAC", "TRUTH"])
+        texts.append(f"deftac {name} {faulty(rng, rng.choice([1, 2, 2, 3, 4]))}{rng.choice(['', '', '', f' THEN {name}'])}")
     texts.append("g K `T /\\ T`")
     texts += [rng.choice(["e ", "e ", "e ", "deftac NN "]) + faulty(rng, rng.choice([1, 2, 2, 3, 4])) for _ in range(10)]
     texts += ["e CONJ_TAC THEN ACCEPT_TAC TRUTH", *(f"e {faulty(rng, rng.choice([1, 2, 3]))}" for _ in range(3)), "qed", f"e {faulty(rng, 2)}"]

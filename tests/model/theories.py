@@ -84,8 +84,8 @@ def hypotheses(*terms):
 class Resolved:
     """What a command writes, looked up where a theory stands: first it is gone through, from left to right, then tested, and then evaluated."""
 
-    def __init__(self, theory):
-        self.theory, self.constants, self.types = theory, theory.standing("const"), theory.standing("type")
+    def __init__(self, theory, own=None):
+        self.theory, self.own, self.constants, self.types = theory, own, theory.standing("const"), theory.standing("type")
         self.cited, self.calls, self.quotations, self.values, self.has_to_be_true = [], [], [], {}, set()
 
     # ---- what is written
@@ -156,6 +156,8 @@ class Resolved:
 
     def test_call(self, name, arguments, is_continuation):
         kinds = "".join({"quotation": "q", "theorem": "t", "pair": "p", "theorems": "l"}[argument[0]] for argument in arguments)
+        if name == self.own:
+            raise Refusal(6, name, "the name that the command gives")
         if name in ARGUMENTS:
             wanted = {"t": "", "qt": "q"}.get(ARGUMENTS[name]) if is_continuation else ARGUMENTS[name]
         elif ("tac", name) in self.theory.entries:

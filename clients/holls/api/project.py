@@ -4,7 +4,7 @@ from __future__ import annotations
 
 import re
 from functools import cached_property
-from typing import Dict, List, Optional, Sequence, Tuple, Union
+from typing import TYPE_CHECKING, Any, Dict, List, Optional, Sequence, Tuple, Union
 
 from holls import check, graph, names, search
 from holls.api.engine import Context, Layer
@@ -16,13 +16,17 @@ from holls.api.values import Checked, Finding, ProgramDied, ProverError, Refused
 from holls.files import File
 from holls.findings import Finding as Found
 from holls.findings import Severity, findings
-from holls.projects import SUFFIX, in_library
+from holls.projects import SUFFIX, in_library, names_of_library
 from holls.protocol import Goals, Lost, Made, Refusal, Reply
 from holls.sent import Sent
 from holls.surface.errors import Misread
 from holls.surface.translation import Translation
 from holls.text import Command
 from holls.view import View
+
+if TYPE_CHECKING:
+    from holls.api.exchange import Brought
+    from holls.exchange.hol_light import Outcome
 
 _NAME = re.compile(r"[A-Za-z_][A-Za-z0-9_']*")
 
@@ -92,8 +96,13 @@ class Project:
                 graph.tell_import(file, wanted, "imports go in a circle here: %s imports a theory of the name %s" % (wanted, name))
                 refused.append(wanted)
         file.refuse(refused)
+        file.neighbours = self.paths
         graph.know_imports(file, self.files)
         return Theory(self, file)
+
+    def paths(self) -> List[str]:
+        """The files that a theory of a text may import: the project's, and the library's."""
+        return [file.path for file in self.files.values()] + [path for name in names_of_library() if name not in self.files for path in in_library(name)]
 
     def take_of_library(self, name: str) -> bool:
         """Takes a theory of the library, with what it imports, where the project has none of the name. Whether the library has one."""
@@ -102,6 +111,22 @@ class Project:
                 self.files.setdefault(file.name, file)
             return True
         return False
+
+    def bring(self, record: str, **how: Any) -> "Brought":
+        """Theorems of HOL Light that a record of `holls import --record` has, as theories over these: `sources`, files of HOL Light's, or `names`
+        say which; `seconds`, `axioms` and `derivations` are as the command's. Raises ProverError where the record can't be read."""
+        from holls.api import exchange  # Here alone: it takes long to load.
+        return exchange.bring(self, record, **how)
+
+    def to_ocaml(self, sample: int = 0) -> str:
+        """These theories as OCaml that HOL Light runs, which then proves their theorems, or a sample of so many."""
+        from holls.api import exchange
+        return exchange.to_ocaml(self, sample)
+
+    def check_by_hol_light(self, sample: int = 0) -> "Outcome":
+        """How many theorems HOL Light proves by its own functions, by ours, and refuses. Raises ProverError where it isn't installed."""
+        from holls.api import exchange
+        return exchange.check_by_hol_light(self, sample)
 
     def imports(self, file: File) -> List[File]:
         """What a file imports, also by way of others, in order."""
@@ -226,11 +251,11 @@ class Theory:
         return {command.name: command.text.split("`")[1] for command in found}
 
     def before(self, name: str) -> "Theory":
-        """The theory as it stands before the command that makes a name. Raises Unknown where none does."""
-        for one in names.written(self.file):
-            if one.name == name and one.number < self._end:
-                return Theory(self.project, self.file, one.number)
-        raise Unknown("no command of %s makes %s" % (self.name, name))
+        """The theory as it stands before the command that makes a name: the theorem, where a constant has this name too. Raises Unknown where none does."""
+        found = [one for one in names.written(self.file) if one.name == name and one.number < self._end]
+        if not found:
+            raise Unknown("no command of %s makes %s" % (self.name, name))
+        return Theory(self.project, self.file, next((one for one in found if one.kind == names.THEOREM), found[0]).number)
 
     def extended(self, *commands: str) -> "Theory":
         """The theory with more commands at its end, each without `;;`."""
@@ -272,10 +297,16 @@ class Theory:
         standing = self._standing
         if pattern is None:
             return list(standing)
-        known = [names.Known(names.THEOREM, one.name, one.statement) for one in standing]
         by_name = {one.name: one for one in standing}
+        index, known = self._searched
+        return [by_name[one.name] for one in index.find(search.query(pattern, view=self.view), known)]
+
+    @cached_property
+    def _searched(self) -> Tuple[search.Index, List[names.Known]]:
+        """What searches go through, kept."""
+        known = [names.Known(names.THEOREM, one.name, one.statement) for one in self._standing]
         constants = [one for one in names.visible(list(self.project.files.values()), self.file) if one.kind in names.IN_TERMS]
-        return [by_name[one.name] for one in search.Index().find(search.query(pattern, view=self.view), known + constants)]
+        return search.Index(), known + constants
 
     @cached_property
     def _standing(self) -> Tuple[Theorem, ...]:

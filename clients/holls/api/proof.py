@@ -2,11 +2,11 @@
 
 from __future__ import annotations
 
-from typing import TYPE_CHECKING, Iterable, List, Optional, Tuple, Union
+from typing import TYPE_CHECKING, Iterable, List, Optional, Sequence, Tuple, Union
 
 from holls.api.engine import Answer, TookTooLong
 from holls.api.shown import Read, read
-from holls.api.values import Kind, ProgramDied, Refused, Theorem, misread, not_taken, refused, refused_whole, too_slow
+from holls.api.values import Kind, ProgramDied, ProverError, Refused, Theorem, misread, not_taken, refused, refused_whole, too_slow
 from holls.protocol import Error, Goal, Goals, Made, Refusal
 
 if TYPE_CHECKING:
@@ -78,7 +78,7 @@ class State:
         return "".join(command + ";;\n" for command in self.written)
 
     def apply(self, step: str) -> Union["State", Refused]:
-        """The state after a step, an expression of functions on goals: `state.apply("REWRITE_TAC [ADD] THEN CONJ_TAC")`.
+        """The state after a step, an expression of tactics: `state.apply("REWRITE_TAC [ADD] THEN CONJ_TAC")`.
 
         Raises ProgramDied where the program ends by it.
         """
@@ -136,6 +136,26 @@ class State:
             return no_state(read("qed", theory.view), answer, theory.prover.seconds)
         statement = answer.entries[-1].split(" |- ", 1)[1]
         return Theorem(name, statement, theory.name, written + ("qed",), basis)
+
+    def find(self, seconds: float = 5.0, names: Optional[Sequence[str]] = None) -> Union["State", Refused]:
+        """The state behind steps that close the first goal, as `holls prove` finds them, within so many seconds, by the theorems that are named
+        where any are; or why none were found. Raises ProverError where a named theorem doesn't stand, or the search's program ends."""
+        from holls.prover.asking import Silent  # Here alone, since the search takes long to load.
+        from holls.prover.finder import Unprovable
+        from holls.prover.warm import NoGoal, Request
+        if self.is_proved:
+            return self
+        theory = self.proof.theory
+        file = theory.project.text("%s\n\n%s" % (theory.text.rstrip(), self.text), theory.name).file
+        searcher = theory.prover.searcher()
+        try:
+            answer = searcher.search(Request(file, len(file.commands) - 1, theory.project.imports(file), names=names, seconds=seconds))
+        except (NoGoal, Silent, Unprovable) as error:
+            raise ProverError(str(error)) from None
+        except KeyboardInterrupt:
+            searcher.stop()
+            raise
+        return refused_whole("prove", Kind.TIME, "none found" + answer.why) if answer.steps is None else self.follow(answer.steps)
 
     def premises(self, most: Optional[int] = None) -> List[Theorem]:
         """The theorems that a step may cite, those first that a proof of the first goal may need: what statements like it have cited, those

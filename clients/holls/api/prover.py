@@ -15,6 +15,8 @@ from holls.limits import limited
 if TYPE_CHECKING:
     from concurrent.futures import ThreadPoolExecutor
 
+    from holls.prover.warm import Warm
+
 Result = TypeVar("Result")
 
 
@@ -42,7 +44,8 @@ class Prover:
         self._free = threading.Condition()
         self._is_closed = False
         self._threads: Optional[ThreadPoolExecutor] = None
-        self._end = weakref.finalize(self, _close, self._engines)
+        self._searchers: List[Warm] = []
+        self._end = weakref.finalize(self, _close, self._engines, self._searchers)
 
     def __enter__(self) -> "Prover":
         return self
@@ -72,6 +75,16 @@ class Prover:
     def pids(self) -> Tuple[int, ...]:
         """The numbers of the processes that run now."""
         return tuple(engine.pid for engine in self._engines if engine.pid is not None)
+
+    def searcher(self) -> "Warm":
+        """The search of `holls prove`, with a program of its own, which ends with this prover."""
+        from holls.prover.warm import Warm  # Here alone, since it takes long to load.
+        with self._free:
+            if self._is_closed:
+                raise ProverError("this prover is closed")
+            if not self._searchers:
+                self._searchers.append(Warm([self.program]))
+            return self._searchers[0]
 
     @contextmanager
     def engine(self, context: Context, path: Tuple[str, ...] = ()) -> Iterator[Engine]:
@@ -104,6 +117,8 @@ class Prover:
         return await asyncio.get_running_loop().run_in_executor(self._threads, call, *arguments)
 
 
-def _close(engines: List[Engine]) -> None:
+def _close(engines: List[Engine], searchers: "List[Warm]") -> None:
     for engine in engines:
         engine.close()
+    for searcher in searchers:
+        searcher.stop()

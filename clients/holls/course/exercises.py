@@ -17,7 +17,7 @@ from holls.text import Command, cut
 
 _ENDS = ("qed", "oops")
 SORRY = "sorry"
-_OUTSIDE = frozenset((*notation.OUTSIDE, *expansion.WORDS, *declarations.WORDS)) - {SORRY}
+_OUTSIDE = frozenset((*notation.OUTSIDE, *expansion.WORDS, *declarations.WORDS)) - {SORRY, *expansion.OF_FILES}
 """The commands at which an open proof of a teacher's file ends."""
 _NAME = re.compile(r"[A-Za-z_][A-Za-z0-9_']*")
 

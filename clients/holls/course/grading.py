@@ -49,7 +49,9 @@ def main(given: argparse.Namespace) -> int:
         course = layout.read(given.folder)
         work = given.work or os.path.join(given.folder, layout.WORK)
         students = _named(given.student, layout.students(work))
-        judges = Judges(course, given, server.find(given.server))
+        program = server.find(given.server)
+        server.say_which(program, given.server)
+        judges = Judges(course, given, program)
         judges.check_course()
     except (BadCourse, server.NoServer) as error:
         complain(error)

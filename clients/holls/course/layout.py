@@ -45,7 +45,7 @@ class Given:
 @dataclass(frozen=True)
 class Course:
     """A course: its folder and title, its files in order, which theories a student may import beside those that an exercise imports, and which names
-    (theorems, functions on goals, commands) no command of a student's own may use."""
+    (theorems, tactics, commands) no command of a student's own may use."""
 
     folder: str
     title: str

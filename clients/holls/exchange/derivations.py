@@ -1,7 +1,7 @@
 """A goal by the derivation that HOL Light's kernel recorded for it: its rules backwards from the goal, as steps of ours that the program checks.
 
 Instances are pushed to the leaves. What a theorem expression says is accepted; what rewriting by the theorems of a part closes is closed so;
-any other rule is its function on goals, a cut, or a theorem of derived_rules.hol. Where a derivation comes to what a tactic left open, the
+any other rule is its tactic, a cut, or a theorem of derived_rules.hol. Where a derivation comes to what a tactic left open, the
 replay goes on.
 """
 

@@ -282,15 +282,21 @@ def _renamed(command: str, own: Dict[str, str], names: Names) -> str:
 
 
 def write(brought: Sequence[Brought], imports: Sequence[str], folder: Path) -> Iterator[Path]:
-    """Writes files within the limits, each with its imports; the first imports what stood, and each later one those before it."""
+    """Writes the files."""
+    for name, text in texts(brought, imports):
+        path = folder / (name + ".hol")
+        path.write_text(text, encoding="utf-8")
+        yield path
+
+
+def texts(brought: Sequence[Brought], imports: Sequence[str]) -> Iterator[Tuple[str, str]]:
+    """Theories within the limits, by name and text, each with its imports; the first imports what stood, and each later one those before it."""
     before = list(imports)
     for name, ones in _split(list(renamed(brought))):
-        path = folder / (name + ".hol")
         head = "(* Theorems of HOL Light's %s, brought over by `holls import`. *)\n\n" % ", ".join(dict.fromkeys(one.file for one in ones))
         body = "\n\n".join(_text(one) for one in ones)
-        path.write_text(head + "".join("import %s;;\n" % other for other in before) + "\n" + body + "\n", encoding="utf-8")
+        yield name, head + "".join("import %s;;\n" % other for other in before) + "\n" + body + "\n"
         before.append(name)
-        yield path
 
 
 DERIVED = "(* By a recorded derivation. *)"

@@ -19,7 +19,7 @@ and t_OR_CLAUSES = OR_CLAUSES and t_IMP_CLAUSES = IMP_CLAUSES;;
 let quoted = parse_term;;
 let quoted_type = parse_type;;
 
-(* Our functions on goals, where HOL Light's of the same name differ. *)
+(* Our tactics, where HOL Light's of the same name differ. *)
 module Ours = struct
   (* Names that are freed: the base with the fewest primes that is the name of no variable there and of no constant. *)
   let standing : (string,unit) Hashtbl.t = Hashtbl.create 100

@@ -265,7 +265,7 @@ class Answers:
         every = self.bridge.workspace.every_file(document.project, files)
         found = helping.actions(document.file, document.uri, files, every, start, end)
         found += numerals.offers(document.file, files, document.uri, start)
-        return Answered(found + proving.offers(self.bridge, document, files, start))
+        return Answered(found + proving.instead(self.bridge, document, start) + proving.offers(self.bridge, document, files, start))
 
     def _resolve_action(self, number: Any, params: Params) -> Optional[Answered]:
         """What the action 'find a proof' does, once a search in a thread has ended."""
@@ -279,7 +279,7 @@ class Answers:
         def attempt() -> Optional[Answered]:
             if not search.done.is_set():
                 return None
-            return Answered(dict(params, edit=proving.edit(search, self.bridge.workspace.documents.get(search.uri))))
+            return Answered(dict(params, edit=proving.edit(self.bridge, search, self.bridge.workspace.documents.get(search.uri))))
 
         self.progress.begin(search, number)
         return self._wait(number, attempt)
@@ -289,14 +289,14 @@ class Answers:
         return Answered(helping.signature(document.file, document.place(params["position"])))
 
     def _search(self, _: Any, params: Params) -> Answered:
-        sent = [server.files for server in self.bridge.servers.values()]
+        sent = self.bridge.sent()
         try:
             return Answered(self.navigation.search(str(params["query"]), bool(params.get("conclusion")), sent))
         except BadQuery as error:
             raise BadParams(str(error)) from None
 
     def _all_symbols(self, _: Any, params: Params) -> Answered:
-        sent = [server.files for server in self.bridge.servers.values()]
+        sent = self.bridge.sent()
         return Answered(self.navigation.symbols(str(params["query"]), sent))
 
     def _files(self, document: Document) -> List[File]:

@@ -9,9 +9,10 @@ import sys
 import threading
 import time
 from dataclasses import dataclass
-from typing import Any, BinaryIO, Callable, Dict, FrozenSet, Iterator, List, NoReturn, Optional, Tuple, Union
+from typing import Any, BinaryIO, Callable, Dict, FrozenSet, Iterator, List, NoReturn, Optional, Sequence, Tuple, Union
 
 from holls import server
+from holls.files import File
 from holls.lsp import wire
 from holls.lsp.answers import Answered, Answers, BadParams
 from holls.lsp.project_server import ProjectServer
@@ -75,7 +76,8 @@ class Limits:
     """What an editor may have. With `is_held` it holds its files itself: none is read from disk but those of the library.
 
     So many of its messages wait at most, each of so many bytes; then nothing more of it is read. Behind its end what waits has `last_seconds`.
-    `theories` are folders of theories that stand before the library.
+    `theories` are folders of theories that stand before the library. Where nothing was heard for `doze_seconds`, programs are ended until something is.
+    So many `files` may be open.
     """
 
     is_held: bool = False
@@ -84,6 +86,8 @@ class Limits:
     message_bytes: int = wire.MESSAGE_BYTES
     last_seconds: float = 60.0
     theories: Tuple[str, ...] = ()
+    doze_seconds: Optional[float] = None
+    files: Optional[int] = None
 
 
 class Bridge:
@@ -105,6 +109,7 @@ class Bridge:
         self.is_probing = self.is_begun = self.is_shut = False
         self.status: Optional[int] = None
         self._look_at = self._read_at = 0.0
+        self._doze_at: Optional[float] = None
         self._spare: Iterator[None] = iter(())
         self._has_spare = False
 
@@ -119,6 +124,20 @@ class Bridge:
         self.end_programs()
         return self.status
 
+    def rehearse(self, messages: Sequence[Any]) -> None:
+        """Takes messages as an editor sends them, without a program: what they load and make is there for the bridges that are forked afterwards."""
+        self.probed = Probed(None, None)
+        for message in messages:
+            self._guard(lambda message=message: self._message(message))
+            self._guard(self._settle)
+
+    def stand(self, names: Sequence[str]) -> None:
+        """Has theories of the library stand, with what they import, before anything is opened: what opens them finds them run. The program has to be
+        known."""
+        self.workspace.stand(names)
+        self.program, self.failure = self.probed.program, self.probed.failure
+        self._changed(None)
+
     def end_programs(self) -> None:
         """Ends the programs that run for this session."""
         for server in list(self.servers.values()):
@@ -129,7 +148,7 @@ class Bridge:
         """How long nothing has to be done."""
         now = time.monotonic()
         looks = [self._look_at] if self.workspace.documents and not self.limits.is_held else []
-        times = self.publisher.times() + self.answers.times() + looks
+        times = self.publisher.times() + self.answers.times() + looks + [self._doze_at]
         waits = [max(0.0, moment - now) for moment in times if moment is not None]
         return min(waits + [wait for server in self.servers.values() for wait in server.patience()], default=None)
 
@@ -161,6 +180,8 @@ class Bridge:
         else:
             self._guard(lambda: self._message(event))
             self.room.release()
+            if self.limits.doze_seconds is not None and self.is_begun:
+                self._doze_at = time.monotonic() + self.limits.doze_seconds
 
     def _guard(self, work: Callable[[], None]) -> None:
         """An error in here is told to the editor and ends nothing."""
@@ -181,13 +202,25 @@ class Bridge:
                 self._changed(None)
         self.answers.answer_waiters()
         self.publisher.publish()
+        if self._doze_at is not None and time.monotonic() >= self._doze_at:
+            self._doze()
+
+    def _doze(self) -> None:
+        """Ends the programs, whose answers are known, until the editor says something; those that are at work are looked at again later."""
+        self.searches.stop()
+        is_done = all([server.doze() for server in self.servers.values()])
+        self._doze_at = None if is_done else time.monotonic() + self.limits.doze_seconds
 
     def all_known(self) -> None:
         """All that was asked for is known: there is time to read the statements for searches."""
         if time.monotonic() >= self._read_at and not self.limits.is_held:
             self._read_at = time.monotonic() + READ_SECONDS
-            self._spare = self.answers.navigation.reading([server.files for server in self.servers.values()])
+            self._spare = self.answers.navigation.reading(self.sent())
             self._has_spare = True
+
+    def sent(self) -> Dict[str, Sequence[File]]:
+        """What the projects' servers were sent."""
+        return {root: server.files for root, server in self.servers.items()}
 
     def _spend(self) -> None:
         """Does some of what can wait."""
@@ -248,6 +281,8 @@ class Bridge:
         self.publisher.take_capabilities(capabilities, options)
         self.answers.progress.take_capabilities(capabilities)
         self.options, self.seconds, self.is_begun = options, seconds, True
+        for server in self.servers.values():
+            server.limit()
         self._probe()
         return Answered({"capabilities": CAPABILITIES, "serverInfo": {"name": "holls"}})
 
@@ -288,6 +323,9 @@ class Bridge:
 
     def _open(self, params: Params) -> None:
         given = params["textDocument"]
+        if self.limits.files is not None and len(self.workspace.documents) >= self.limits.files and given["uri"] not in self.workspace.documents:
+            self.notify("window/showMessage", {"type": 1, "message": "%d files are open, and there may be no more: close one" % self.limits.files})
+            return
         document = self.workspace.open(given["uri"], given.get("version"), given["text"])
         self._save(params)
         self._changed(document)

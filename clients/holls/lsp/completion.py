@@ -51,7 +51,7 @@ def at(files: Sequence[File], theories: Iterable[str], file: File, place: int, f
         [_known(one, first, view) for one in visible if one.kind == TACTIC]
         + [_own(name, entry, METHOD, first) for name, entry in (*manual.FUNCTIONS.items(), *manual.STEPS.items())]
         + [_own(name, entry, KEYWORD, first + "1") for name, entry in manual.TACTICALS.items()]
-        + [_own(name, entry, FUNCTION, second) for name, entry in manual.RULES.items()] + theorems)
+        + [_own(name, entry, FUNCTION, second) for name, entry in (*manual.RULES.items(), *manual.PACKAGE_RULES.items())] + theorems)
 
 
 def likeliest(found: List[Dict[str, Any]], file: File, place: int, most: int) -> Dict[str, Any]:

@@ -77,9 +77,9 @@ def theorem(file: File, number: int) -> Optional[str]:
 
 
 def lenses(file: File, uri: str) -> List[Dict[str, Any]]:
-    """A lens above each proof that made its theorem."""
-    made = [(first, theorem(file, last)) for first, last in names.blocks(file) if file.commands[first].package is None]
+    """A lens above each proof that made its theorem, and above each package that made one of its own name (`define`)."""
+    made = [(first, theorem(file, last), file.commands[first].package) for first, last in names.blocks(file)]
     shown = {one.name: one.shown for one in names.known(file) if one.kind == THEOREM and one.is_made}
     return [
         {"range": span(file, file.commands[first].start, file.commands[first].start), "data": {"uri": uri, "name": name, "statement": shown.get(name)}}
-        for first, name in made if name is not None]
+        for first, name, package in made if name is not None and (package is None or package.name == name)]

@@ -7,6 +7,7 @@ from typing import Any, Dict, List, Optional, Tuple, Union
 
 from holls import protocol, words
 from holls.files import File
+from holls.meant import Meant
 from holls.names import HIDDEN
 from holls.protocol import Goal, Goals, Lost, Made, Refusal
 from holls.theory import Job
@@ -104,7 +105,7 @@ def _error(file: File, number: int, report: Union[Refusal, Lost, None]) -> List[
         if command.error is not None:
             return ["not sent: " + command.error.text]
         told = file.why_not(number) if report.number == protocol.UNKNOWN_THEORY else None
-        return ["refused: " + (told or words.explain(command.text, report)[2])]
+        return ["refused: " + (told or words.explain(command.text, report)[2] + Meant(file).said(number, report))]
     if isinstance(report, Lost):
         return ["nothing is known of this command: " + report.reason]
     return ["this command wasn't sent"]

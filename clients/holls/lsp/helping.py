@@ -34,7 +34,7 @@ def actions(file: File, uri: str, files: Sequence[File], every: Sequence[File], 
 def manual_of_all() -> Dict[str, Any]:
     """All words of the notation, with how each is written and what it does; and the symbols' names."""
     kinds = {"commands": {**manual.COMMANDS, **manual.PACKAGES}, "declarations": manual.DECLARATIONS,
-             "functions": manual.FUNCTIONS, "tacticals": manual.TACTICALS, "rules": manual.RULES}
+             "functions": manual.FUNCTIONS, "tacticals": manual.TACTICALS, "rules": {**manual.RULES, **manual.PACKAGE_RULES}}
     told = {kind: {name: {"form": entry.form, "does": entry.does} for name, entry in entries.items()} for kind, entries in kinds.items()}
     return dict(told, symbols=SYMBOL_NAMES)
 
@@ -86,7 +86,7 @@ def _open_call(before: List[str]) -> Tuple[Optional[manual.Entry], int]:
         elif token in (",", ";"):
             pass
         else:
-            entry = manual.FUNCTIONS.get(token) or manual.RULES.get(token) or manual.TACTICALS.get(token)
+            entry = manual.FUNCTIONS.get(token) or {**manual.RULES, **manual.PACKAGE_RULES}.get(token) or manual.TACTICALS.get(token)
             if entry and number < max(1, len(_arguments(entry))):
                 return entry, number
             number += 1

@@ -10,7 +10,7 @@ from holls.lsp.lookup import Word
 from holls.names import CONSTANT, IN_TERMS, TACTIC, THEOREM, Known
 from holls.view import PLAIN
 
-KINDS = {THEOREM: "theorem", CONSTANT: "constant", TACTIC: "function on goals"}
+KINDS = {THEOREM: "theorem", CONSTANT: "constant", TACTIC: "tactic"}
 
 
 def of_word(word: Word, more: Optional[str]) -> Optional[str]:

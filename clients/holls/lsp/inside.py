@@ -3,13 +3,13 @@ theories, behind the proof's statement and the steps above."""
 
 from __future__ import annotations
 
-from typing import TYPE_CHECKING, Dict, List, Optional, Tuple
+from typing import TYPE_CHECKING, Dict, List, Optional, Sequence, Tuple
 
 from holls import words
 from holls.files import File
-from holls.lsp import goals
-from holls.prover import trying
-from holls.protocol import Goals, Refusal
+from holls.lsp import beginnings, goals
+from holls.lsp.beginnings import Part
+from holls.protocol import Goal, Goals, Refusal
 from holls.view import View
 
 if TYPE_CHECKING:
@@ -17,6 +17,7 @@ if TYPE_CHECKING:
     from holls.lsp.workspace import Document
 
 _THEORY = "holls_inside"
+_INFIXES = ("THEN", "ORELSE")
 _MOST_KEPT = 400
 _MOST_GOALS = 8
 """With more goals than these it isn't asked on which of them a part is refused."""
@@ -35,37 +36,49 @@ class Inside:
         number = file.number_at(place)
         command = file.commands[number] if number is not None else None
         entry = file.entry(number) if command is not None and command.word == "e" else None
-        cuts = trying.cuts(command.text) if entry else []
-        plain = trying.cuts(entry.sent) if entry else []
-        if not cuts or len(cuts) != len(plain) or entry.report is None:
+        text = entry.sent if entry and entry.sent == command.text else ""
+        if not any(word in text for word in _INFIXES) or entry.report is None:
             return ""
-        index = sum(cut <= command.offset(place) for cut in cuts)
-        bounds = [0] + plain + [len(entry.sent)]
-        begin, part = entry.sent[:bounds[index]], entry.sent[bounds[index]:bounds[index + 1]]
-        before = self._after(document, number, begin)
+        part = beginnings.part_at(text[len("e"):], command.offset(place) - len("e"))
+        if part is None:
+            return ""
+        before = self._before(document, number, part)
         if before is None or not isinstance(before, Goals):
             return None if before is None else ""
-        said = "before this part:\n" + goals.text(goals.in_notation(goals.State(number, before, None, []), View.of(file, number)))
+        own = before.goals
+        if part.beginning is not None:
+            own = own[part.first:len(own) - part.last - self._others(document, number)]
+        said = "before this part:\n" + goals.text(goals.in_notation(goals.State(number, Goals(tuple(own)), None, []), View.of(file, number)))
         if not isinstance(entry.report, Refusal):
             return said
-        after = self._after(document, number, begin + part)
+        after = self._after(document, number, "e " + part.whole)
         if after is None:
             return None
-        return self._refused(document, number, begin, part, before, after, said) if isinstance(after, Refusal) else said
+        return self._refused(document, number, part, own, after, said) if isinstance(after, Refusal) else said
 
-    def _refused(self, document: "Document", number: int, begin: str, part: str, before: Goals, after: Refusal, said: str) -> Optional[str]:
+    def _before(self, document: "Document", number: int, part: Part) -> object:
+        """The goals before a part, with those of other parts beside it; None as long as they aren't known."""
+        return self._after(document, number, "" if part.beginning is None else "e " + part.beginning)
+
+    @staticmethod
+    def _others(document: "Document", number: int) -> int:
+        """How many goals of the proof the step doesn't touch."""
+        known = goals.state(document.file, number - 1)
+        found = (known.plain or known).goals if isinstance(known, goals.State) else None
+        return max(0, len(found.goals) - 1) if found else 0
+
+    def _refused(self, document: "Document", number: int, part: Part, own: Sequence[Goal], after: Refusal, said: str) -> Optional[str]:
         """Words on a part that is refused, with the goal on which it is where there are several."""
         why = words.explain(document.file.commands[number].text, after)[2]
-        count, call = len(before.goals), part.strip()[len("THEN "):]
-        if begin and part.startswith("THEN ") and 1 < count <= _MOST_GOALS:
-            for at in range(count):
-                tried = "%s THENL [%s]" % (begin.rstrip(), "; ".join(call if other == at else "ALL_TAC" for other in range(count)))
-                report = self._after(document, number, tried)
+        kind = "this alternative is refused" if part.is_alternative else "refused in this part"
+        if part.before and part.infix == "THEN" and 1 < len(own) <= _MOST_GOALS:
+            for at in range(len(own)):
+                report = self._after(document, number, "e " + part.on(at, len(own)))
                 if report is None:
                     return None
                 if isinstance(report, Refusal):
-                    return "refused in this part, on goal %d of %d: %s\n%s" % (at + 1, count, why, said)
-        return "refused in this part: %s\n%s" % (why, said)
+                    return "%s, on goal %d of %d: %s\n%s" % (kind, at + 1, len(own), why, said)
+        return "%s: %s\n%s" % (kind, why, said)
 
     def _after(self, document: "Document", number: int, begin: str) -> object:
         """The report on the beginning of a step; None as long as there is none."""

@@ -61,11 +61,21 @@ def word(files: Sequence[File], file: File, place: int) -> Optional[Word]:
         return Word(name, start, end, command, False, theory=name)
     entry = manual.entry(name)
     is_first = name in manual.COMMANDS or name in manual.DECLARATIONS or name in manual.PACKAGES
+    if entry and name in manual.PACKAGE_RULES:
+        return Word(name, start, end, command, False, _with_statement(entry, file, command, start, view), view=view)
     if entry and (not is_first or start == command.start or name in manual.DECLARATIONS and file.is_declaration(number)):
         return Word(name, start, end, command, False, entry, view=view)
     kinds = IN_TERMS if file.is_declaration(number) else (names.kind_outside(written, written.offset(start)),)
     known = _made(file, command, start, name) or names.find(files, file, place, name, kinds)
     return Word(name, start, end, command, False, known=known, view=view)
+
+
+def _with_statement(entry: manual.Entry, file: File, command: Command, start: int, view: View) -> manual.Entry:
+    """A rule's entry with the statement of the theorem that it stands for."""
+    first, last = notation.word_at(command.text, command.offset(start))
+    begun = "g %s `" % command.text[first:last]
+    made = next((one.text for one in file.commands if one.package is not None and one.text.startswith(begun)), None)
+    return entry if made is None else entry._replace(does="%s Here: `%s`" % (entry.does, view.term(made[len(begun):-1])))
 
 
 def _quoted(files: Sequence[File], file: File, command: Command, place: int) -> Optional[Word]:

@@ -3,7 +3,7 @@
 from __future__ import annotations
 
 from pathlib import Path
-from typing import Any, Dict, Iterator, List, Optional, Sequence
+from typing import Any, Dict, Iterator, List, Mapping, Optional, Sequence
 
 from holls import names, search
 from holls.files import File
@@ -14,6 +14,9 @@ from holls.view import View
 
 MOST = 500
 """So many symbols of a workspace are answered."""
+
+Sent = Mapping[str, Sequence[File]]
+"""What the projects' servers were sent, by the projects' keys."""
 
 
 class Navigation:
@@ -69,7 +72,7 @@ class Navigation:
                 found.append({"range": features.span(document.file, start, end), "target": self.uri(target)})
         return found
 
-    def symbols(self, query: str, servers: Sequence[Sequence[File]]) -> List[Dict[str, Any]]:
+    def symbols(self, query: str, servers: Sent) -> List[Dict[str, Any]]:
         """The names of all projects that have a query's letters in their order; those that begin with it first."""
         wanted = query.lower()
         found = [one for file in self._every(servers) for one in names.known(file) if _has_letters(one.name.lower(), wanted)]
@@ -78,7 +81,7 @@ class Navigation:
             "name": one.name, "kind": features.KINDS.get(one.kind, features.FUNCTION), "containerName": one.origin,
             "location": self.location(one.file, *names.name_range(one))} for one in found[:MOST]]
 
-    def search(self, query: str, of_conclusion: bool, servers: Sequence[Sequence[File]]) -> List[Dict[str, Any]]:
+    def search(self, query: str, of_conclusion: bool, servers: Sent) -> List[Dict[str, Any]]:
         """The theorems that a query finds in all projects and in the prelude, the best first."""
         every = self._every(servers)
         view = View.of_all(every)
@@ -90,7 +93,7 @@ class Navigation:
             found.append(dict(result, location=self.location(one.file, *names.name_range(one))) if one.file else result)
         return found
 
-    def reading(self, servers: Sequence[Sequence[File]]) -> Iterator[None]:
+    def reading(self, servers: Sent) -> Iterator[None]:
         """Reads the statements of all projects, one at a time, so that the next search finds them read."""
         for file in self._every(servers):
             for one in names.known(file):
@@ -98,11 +101,10 @@ class Navigation:
                     self.index.statement(one.shown)
                     yield
 
-    def _every(self, servers: Sequence[Sequence[File]]) -> List[File]:
+    def _every(self, servers: Sent) -> List[File]:
         """The files of all projects."""
         projects = {document.project.key: document.project for document in self.workspace.documents.values()}
-        sent = [file for files in servers for file in files]
-        return list({file.path: file for project in projects.values() for file in self.workspace.every_file(project, sent)}.values())
+        return list({file.path: file for key, project in projects.items() for file in self.workspace.every_file(project, servers.get(key, ()))}.values())
 
 
 def _has_letters(name: str, wanted: str) -> bool:

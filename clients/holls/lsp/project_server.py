@@ -62,9 +62,15 @@ class ProjectServer:
             probed = self.bridge.program
             self.session = Session(
                 probed.words, self.bridge.events, probed.served, self.sweep, self.bridge.told, self.bridge.seconds)
-            self.session.slow_seconds = float(self.bridge.options.get("slow") or self.session.slow_seconds)
+            self.limit()
         if self.session:
             self.session.want([file.theory for file in self._in_order()])
+
+    def limit(self) -> None:
+        """Takes how long a command may take, and when it is marked, as the editor wishes it."""
+        if self.session:
+            self.session.seconds = self.bridge.seconds
+            self.session.slow_seconds = float(self.bridge.options.get("slow") or self.session.slow_seconds)
 
     def settle(self) -> None:
         """What is to be done at its time."""
@@ -80,6 +86,10 @@ class ProjectServer:
         rest = [] if self.resting_until is None else [max(0.0, self.resting_until - time.monotonic())]
         deadline = self.session.deadline() if self.session else None
         return rest + ([] if deadline is None else [deadline])
+
+    def doze(self) -> bool:
+        """Ends the server until something is wanted of it, if all is known. Answers whether that was so."""
+        return self.session is None or self.is_done and self.session.doze()
 
     def stop(self) -> None:
         """Ends the server."""

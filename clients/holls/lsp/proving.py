@@ -16,6 +16,7 @@ from holls.prover import command, serving
 from holls.prover.asking import Silent
 from holls.prover.finder import Cancelled, Unprovable
 from holls.prover.warm import Answer, NoGoal, Request, Warm
+from holls.protocol import Refusal
 from holls.server import NoServer
 
 if TYPE_CHECKING:
@@ -23,7 +24,15 @@ if TYPE_CHECKING:
     from holls.lsp.workspace import Document
 
 TITLE, ARITHMETIC_TITLE, SIMPLER_TITLE = "Find a proof", "Find a proof by arithmetic", "Simplify the goal"
+_INSTEAD = "Instead: %s"
+_REPLACE = "Replace %s by the steps of a proof"
 _ARITHMETIC, _SIMPLER = "arithmetic", "simpler"
+_LONGEST_TITLE = 90
+_WANTED = re.compile(r"e\s*\(?\s*([A-Za-z_]+)\s*(?:\[([A-Za-z0-9_';\s]*)\])?\s*\)?\s*\Z")
+_BY_NUMBERS = frozenset(("arith", "ARITH_TAC", "ASM_ARITH_TAC"))
+_BY_SEARCH = frozenset(("prove", "MESON_TAC", "ASM_MESON_TAC", "METIS_TAC", "ASM_METIS_TAC", "SET_TAC", "ASM_SET_TAC", "SIMP_TAC", "ASM_SIMP_TAC",
+                        "TAUT_TAC", "ITAUT_TAC"))
+"""Words of steps in whose place a search puts its own: those of HOL Light's that search, and two short ones."""
 _NUMBERS = re.compile(r"\b(le|lt|GE|GT|add|mult|sub|SUC|PRE|EVEN|ODD|DIV|MOD|EXP)\b")
 
 Params = Dict[str, Any]
@@ -50,6 +59,7 @@ class Search:
     imports: List[File]
     paths: List[str]
     number: int
+    wanted: Optional["Wanted"] = None
     is_arithmetic: bool = False
     is_simplifying: bool = False
     answer: Optional[Answer] = None
@@ -66,8 +76,9 @@ class Search:
 
         try:
             others = command.others(self.file, self.imports, self.paths)
-            self.answer = warm.search(Request(self.file, self.number, self.imports, others, None, command.SECONDS, self.is_arithmetic,
-                                              self.is_simplifying, tell))
+            names = list(self.wanted.names) or None if self.wanted else None
+            self.answer = warm.search(Request(self.file, self.number, self.imports, others, names, command.SECONDS, self.is_arithmetic,
+                                              self.is_simplifying, tell, lambda answer: self._first(answer, bridge)))
         except Cancelled:
             self.failure = "the search was cancelled"
         except (NoServer, NoGoal, Silent, Unprovable) as error:
@@ -77,10 +88,48 @@ class Search:
         self.done.set()
 
 
+    def _first(self, answer: Answer, bridge: "Bridge") -> None:
+        """Takes the first proof, while others are looked for."""
+        self.answer = answer
+        self.done.set()
+        bridge.events.put(self)
+
+
+@dataclass(frozen=True)
+class Wanted:
+    """A step that names a search, in whose place the steps that it finds belong: its range in the file, its word, and the theorems that it names."""
+
+    start: int
+    end: int
+    word: str
+    names: Tuple[str, ...]
+
+    @staticmethod
+    def of(file: File, number: int) -> Optional["Wanted"]:
+        """The one that a refused command is."""
+        given = file.commands[number]
+        entry = file.entry(number)
+        found = _WANTED.match(given.text) if entry and isinstance(entry.report, Refusal) and number else None
+        if found is None or found.group(1) not in _BY_NUMBERS | _BY_SEARCH:
+            return None
+        names = tuple(name.strip() for name in (found.group(2) or "").split(";") if name.strip())
+        return Wanted(given.start, given.end, found.group(1), names)
+
+
+@dataclass(frozen=True)
+class Placed:
+    """What a search put into a file: where, and what stands before its steps there."""
+
+    search: Search
+    place: int
+    before: str
+
+
 class Searches:
     """The servers for searches, one for each project, which answer `holls prove` too."""
 
     def __init__(self) -> None:
+        self.placed: Dict[str, Placed] = {}
         self._kept: Dict[str, Tuple[List[str], Warm, Optional[serving.Listener]]] = {}
 
     def of(self, project: str, program: List[str], is_shared: bool) -> Warm:
@@ -174,7 +223,34 @@ def offers(bridge: "Bridge", document: "Document", files: List[File], start: int
     first = (known.plain or known).goals.goals[0]
     is_number = _NUMBERS.search(" ".join((first.conclusion,) + first.assumptions))
     titles = [(TITLE, "")] + ([(ARITHMETIC_TITLE, _ARITHMETIC)] if is_number else []) + [(SIMPLER_TITLE, _SIMPLER)]
+    wanted = Wanted.of(file, number)
+    if wanted is not None:
+        titles = [(_REPLACE % wanted.word, _ARITHMETIC if wanted.word in _BY_NUMBERS else "")]
     return [{"title": title, "kind": "quickfix", "data": {"uri": document.uri, "number": number, "kind": kind}} for title, kind in titles]
+
+
+def instead(bridge: "Bridge", document: "Document", start: int) -> List[Params]:
+    """The actions that put another proof in the place of one that was found, where it still stands."""
+    placed = bridge.searches.placed.get(document.uri)
+    if placed is None or placed.search.answer is None:
+        return []
+    search, text = placed.search, document.file.lines.text
+    proofs = [search.answer.steps, *map(list, search.answer.others)]
+    made = [placed.before + _steps(search.file, search.answer._replace(steps=steps)) for steps in proofs]
+    above = search.file.lines.text[:placed.place]
+    there = max((one for one in made if text.startswith(above + one)), key=len, default="")
+    end = placed.place + len(there)
+    if not there or not search.file.commands[search.answer.number].start <= start <= end:
+        return []
+    where = features.span(document.file, placed.place, end)
+    return [{"title": _titled(one), "kind": "quickfix", "edit": {"changes": {document.uri: [{"range": where, "newText": one}]}}}
+            for one in made if one != there]
+
+
+def _titled(steps: str) -> str:
+    """What an action is called that puts steps in."""
+    title = _INSTEAD % " ".join(steps.strip("; \n").split())
+    return title if len(title) <= _LONGEST_TITLE else title[:_LONGEST_TITLE - 3] + "..."
 
 
 def _prepare(warm: Warm, imports: List[File]) -> None:
@@ -205,7 +281,8 @@ def begin(bridge: "Bridge", document: "Document", files: List[File], number: int
     if not 0 <= number < len(document.file.commands):
         raise NotFound("the text has changed")
     paths = command.paths_of(document.project)
-    search = Search(document.uri, document.file.copy(), _imports(document, files), paths, number, kind == _ARITHMETIC, kind == _SIMPLER)
+    wanted = Wanted.of(document.file, number)
+    search = Search(document.uri, document.file.copy(), _imports(document, files), paths, number, wanted, kind == _ARITHMETIC, kind == _SIMPLER)
     warm = bridge.searches.of(document.project.key, bridge.program.words, not bridge.limits.is_held)
 
     def work() -> None:
@@ -216,17 +293,24 @@ def begin(bridge: "Bridge", document: "Document", files: List[File], number: int
     return search
 
 
-def edit(search: Search, document: Optional["Document"]) -> Params:
-    """The edit that puts what was found behind its command."""
+def edit(bridge: "Bridge", search: Search, document: Optional["Document"]) -> Params:
+    """The edit that puts what was found behind its command, or in the place of the step that asks for it."""
     if search.failure:
         raise NotFound(search.failure)
     if search.answer is None or search.answer.steps is None:
         raise NotFound("no proof was found" + (search.answer.why if search.answer else ""))
-    place, text = _insertion(search.file, search.answer)
-    if document is None or document.file.lines.text[:place] != search.file.lines.text[:place]:
+    wanted = search.wanted
+    place, text = (wanted.start, _steps(search.file, search.answer).strip()[:-len(";;")]) if wanted else _insertion(search.file, search.answer)
+    end = wanted.end if wanted else place
+    if document is None or document.file.lines.text[:end] != search.file.lines.text[:end]:
         raise NotFound("the text above has changed; the proof was:\n" + text.strip())
-    edits = [(place, text)] + ([_imported(search.file, search.answer)] if search.answer.imports else [])
-    return {"changes": {search.uri: [{"range": features.span(document.file, at, at), "newText": added} for at, added in edits]}}
+    edits = [(place, end, text)]
+    if search.answer.imports:
+        at, added = _imported(search.file, search.answer)
+        edits.append((at, at, added))
+    elif not wanted:
+        bridge.searches.placed[search.uri] = Placed(search, place, text[:len(text) - len(_steps(search.file, search.answer))])
+    return {"changes": {search.uri: [{"range": features.span(document.file, start, until), "newText": added} for start, until, added in edits]}}
 
 
 def _imported(file: File, answer: Answer) -> Tuple[int, str]:
@@ -240,12 +324,18 @@ def _imported(file: File, answer: Answer) -> Tuple[int, str]:
 
 
 def _insertion(file: File, answer: Answer) -> Tuple[int, str]:
-    """Where steps belong, and their text: a line each, as far to the right as their command."""
+    """Where steps belong, and their text."""
     before = file.commands[answer.number]
     place = behind(file, before.end)
+    missing = "" if file.lines.text[before.end:place].strip() else ";;"
+    return place, missing + _steps(file, answer)
+
+
+def _steps(file: File, answer: Answer) -> str:
+    """The text of steps: a line each, as far to the right as their command."""
+    before = file.commands[answer.number]
     start = file.lines.starts[file.lines.line(before.start)]
     margin = file.lines.text[start:before.start]
     margin = margin if not margin.strip() else ""
-    missing = "" if file.lines.text[before.end:place].strip() else ";;"
     steps = [command.in_notation_at(file, answer.number, step) for step in answer.steps]
-    return place, missing + "".join("\n%s%s;;" % (margin, step) for step in steps)
+    return "".join("\n%s%s;;" % (margin, step) for step in steps)

@@ -127,11 +127,11 @@ class Publisher:
         """What tells whether there is something new to say of a document."""
         server, theory = self.bridge.server_of(document), document.file.theory
         failure = server.failure if server else self.bridge.failure
-        known = sum(entry.report is not None for entry in theory.entries)
-        slow = sum(entry.is_slow for entry in theory.entries)
+        unknown = [entry.report for entry in theory.entries].count(None)
+        slow = [entry.is_slow for entry in theory.entries].count(True)
         context = [blemish.text for blemish in document.file.context]
         notation = document.file.notation  # Another one where what an import declares is, though all that is sent is as it was.
-        return document.version, id(server), failure, context, theory.edits, notation, known, slow, self._is_done(document)
+        return document.version, id(server), failure, context, theory.edits, notation, unknown, slow, self._is_done(document)
 
     def _send_unknown(self, document: Document, failure: Optional[str]) -> None:
         """Shows which commands' outcomes aren't known yet, as Lean's editors show what is being processed."""

@@ -83,6 +83,12 @@ class Workspace:
         self._loaded: Dict[str, Tuple[Moment, File]] = {}
         self._looked_at: Dict[str, Tuple[Moment, File]] = {}
         self._imported: Dict[str, Versions] = {}
+        self._standing: Optional[File] = None
+
+    def stand(self, names: Sequence[str]) -> None:
+        """Has theories stand, with what they import, whatever is open: by a file that is never sent, since it has no name."""
+        self._standing = File("")
+        self._standing.take("".join("import %s;;\n" % name for name in names))
 
     def open(self, uri: str, version: Optional[int], text: str) -> Document:
         """A document is opened."""
@@ -94,17 +100,17 @@ class Workspace:
 
     def change(self, document: Document, version: Optional[int], changes: List[Dict[str, Any]]) -> None:
         """A document is changed: by ranges, or as a whole."""
-        text = document.file.lines.text
+        lines = document.file.lines
         for change in changes:
             if change.get("range") is None:
-                text = change["text"]
+                lines = places.Lines(change["text"])
                 continue
             start, end = (change["range"][side] for side in ("start", "end"))
-            before = (start["line"], start["character"]), (end["line"], end["character"])
-            text = places.changed(text, before[0], before[1], change["text"])
-            document.cursor = places.Lines(text).place(*before[0]) + len(change["text"])
+            text, document.cursor = places.changed(
+                lines, (start["line"], start["character"]), (end["line"], end["character"]), change["text"])
+            lines = places.Lines(text)
         document.version = version
-        document.file.take(text)
+        document.file.take(lines.text, lines)
 
     def is_stale(self) -> bool:
         """Whether a file that was read from disk has changed there, or a project has other files."""
@@ -121,6 +127,10 @@ class Workspace:
         for document in self._admitted():
             projects[document.project.key] = document.project
             admitted.setdefault(document.project.key, []).append(document.file)
+        if self._standing is not None:
+            project = self.projects.of(self._standing.path)
+            projects[project.key] = project
+            admitted.setdefault(project.key, []).append(self._standing)
         for key, own in admitted.items():
             admitted[key] = self._sent(projects[key], own, used)
         self._loaded = {path: loaded for path, loaded in self._loaded.items() if path in used}
@@ -132,14 +142,25 @@ class Workspace:
         return None if isinstance(path, list) else self._at(path)
 
     def every_file(self, project: Project, sent: Sequence[File]) -> List[File]:
-        """All files of a project: those that are open or sent, and the others on disk."""
-        known = {os.path.abspath(file.path): file for file in sent if self.projects.of(file.path) is project}
+        """All files of a project: those that are open, those that its server was sent, also of the library, and the others on disk."""
+        known = {os.path.abspath(file.path): file for file in sent}
         known.update((os.path.abspath(document.file.path), document.file) for document in self.documents.values() if document.project is project)
         names = {file.name for file in known.values()} if isinstance(self.projects, OneProject) else ()
         others = [self._at(path) for path in project.paths() if os.path.abspath(path) not in known and files.theory_name(path) not in names]
         found = list(known.values()) + [file for file in others if file is not None]
-        graph.share_notation(found)
+        graph.share_notation(self._with_imports(project, found))
         return found
+
+    def _with_imports(self, project: Project, found: Sequence[File]) -> List[File]:
+        """Some files of a project with those that they import, by way of others too: what an open file imports isn't forgotten by looking at others."""
+        by_name = {file.name: file for file in reversed(found)}
+        waiting = list(by_name.values())
+        while waiting:
+            missing = [name for name in waiting.pop().imports if name not in by_name]
+            new = {name: file for name, file in ((name, self.look(project, name)) for name in missing) if file is not None}
+            by_name.update(new)
+            waiting += new.values()
+        return list(by_name.values())
 
     def _at(self, path: str) -> Optional[File]:
         """The file at a path."""

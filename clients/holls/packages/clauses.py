@@ -67,9 +67,9 @@ def tree_spine(tree: Tree) -> Tuple[Tree, List[Tree]]:
     return tree, arguments
 
 
-def error(at: Tree, text: str) -> Misread:
+def error(at: Tree, text: str, taken: Optional[Tuple[str, str]] = None) -> Misread:
     """An error at a tree."""
-    return Misread(at.start, max(at.end, at.start + 1), text)
+    return Misread(at.start, max(at.end, at.start + 1), text, taken=taken)
 
 
 class ClauseReader:
@@ -94,7 +94,7 @@ class ClauseReader:
         if head.__class__ is not Name:
             raise error(body.left, "the left side of a clause is a function that is to be defined, applied to patterns")
         if self.asking.is_constant(head.text):
-            raise error(head, "the constant `%s` stands already: another name for what is defined" % head.text)
+            raise error(head, "the constant `%s` stands already: another name for what is defined" % head.text, ("const", head.text))
         if self.arities.setdefault(head.text, len(arguments)) != len(arguments):
             raise error(body.left, "`%s` has %d arguments here and %d above" % (head.text, len(arguments), self.arities[head.text]))
         return body

@@ -22,6 +22,8 @@ from holls.surface.tree import Type as WrittenType
 FORM = "define_type NAME = CONSTRUCTOR type .. | CONSTRUCTOR type .. | .."
 RESERVED = frozenset((*TACTICALS, *FORWARD))
 MOST_CONSTRUCTORS = 100
+_MUTUAL = ("types that are defined by one another aren't given: make one type of the constructors of all, with a relation (inductive) that says what is of which; "
+           "or, where one is of lists of the other, write (t list) in its place")
 _USED = re.compile(r"(?:P|fn|h|f[0-9]+)\Z")
 """The variables of the theorems themselves."""
 
@@ -66,6 +68,8 @@ def read(text: str, word: str, place: Place) -> Written:
     while reader.is_next("|"):
         reader.at += 1
         constructors.append(_constructor(reader))
+    if reader.is_next(";"):
+        raise reader.misread(_MUTUAL)
     if reader.next.kind is not END:
         raise reader.misread("no type goes on with `%s` here: `|` and the next constructor, or a type in parentheses" % reader.next.text)
     return Written(head.text, constructors, head.start, head.end)
@@ -85,12 +89,14 @@ def _constructor(reader: Reader) -> WrittenConstructor:
         raise reader.misread("a constructor's name is missing here")
     reader.at += 1
     arguments: List[Argument] = []
-    while reader.next.kind is WORD or reader.is_next("(") or reader.next.kind is NUMBER and reader.is_next("1"):
+    while reader.next.kind is WORD and reader.next.text != "and" or reader.is_next("(") or reader.next.kind is NUMBER and reader.is_next("1"):
         name = None
         if reader.next.kind is WORD and reader.tokens[reader.at + 1].text == ":":
             name = reader.next.text
             reader.at += 2
         arguments.append(Argument(_atom(reader), name))
+    if reader.is_next("and"):
+        raise reader.misread(_MUTUAL)
     return WrittenConstructor(head.text, arguments, head.start, head.end)
 
 
@@ -171,7 +177,7 @@ def analysed(written: Written, asking: Asking) -> Data:
     """The type that is declared. Raises `Misread` where there is none."""
     name, where = written.name, (written.start, written.end)
     if asking.arity_of(name) is not None:
-        raise Misread(*where, "the type `%s` stands already: another name for this one" % name)
+        raise Misread(*where, "the type `%s` stands already: another name for this one" % name, taken=("type", name))
     if name in RESERVED:
         raise Misread(*where, "`%s` is a reserved word" % name)
     if len(written.constructors) > MOST_CONSTRUCTORS:
@@ -196,7 +202,8 @@ def _check_names(written: Written, asking: Asking) -> None:
         if one.name in seen:
             raise Misread(one.start, one.end, "the constructor `%s` stands twice in this type" % one.name)
         if one.name in LOGIC or asking.is_constant(one.name):
-            raise Misread(one.start, one.end, "the constant `%s` stands already: another name for the constructor" % one.name)
+            told = "the constant `%s` stands already: another name for the constructor" % one.name
+            raise Misread(one.start, one.end, told, taken=("const", one.name))
         seen.add(one.name)
 
 

@@ -5,7 +5,7 @@ from __future__ import annotations
 from dataclasses import dataclass
 from typing import Any, Callable, Dict, List, Mapping, Optional, Tuple
 
-from holls.packages import datatypes, functions, listed, records, relations, specification
+from holls.packages import datatypes, functions, lets, listed, records, relations, simplifying, specification
 from holls.packages.output import HIDDEN, PUBLIC, Output, Plain
 from holls.packages.parsing import Place
 from holls.packages.scope import THEORY, Asking, Standing, agrees
@@ -50,8 +50,11 @@ PACKAGES: Dict[str, Callable[[str, Place, Output], None]] = {
     "specification": specification.expand, "record": records.expand}
 """The packages by their words, each with what expands it."""
 WORDS: Dict[str, str] = {"define_type": datatypes.FORM, "define": functions.FORM, "inductive": relations.FORM,
-                         "specification": specification.FORM, "record": records.FORM, "sorry": "sorry", "theorems": listed.FORM}
+                         "specification": specification.FORM, "record": records.FORM, "sorry": "sorry", "theorems": listed.FORM,
+                         "let": lets.FORM, "simp": simplifying.FORM}
 """The words that begin a package, and how each is written."""
+OF_FILES = ("theorems", "let", "simp")
+"""Those that only name something for steps and for searches: the program never gets them, and they may stand in a proof."""
 
 
 def expanded(text: str, word: str, table: Table, vocabulary: Vocabulary, standing: Standing) -> Expansion:

@@ -1,39 +1,49 @@
-"""Rules where a theorem stands in a step: `GSYM th`, `CONJ th th`, `GEN_ALL th`, `BETA_RULE th`, `MATCH_MP th th`.
+"""Rules where a theorem stands in a step: `GSYM th`, `CONJ th th`, `REWRITE_RULE [th; ..] th`, `SPECL [`t`; ..] th` and their like.
 
-Each is a hidden theorem in front of the proof, whose statement is found here and whose proof is a step or two; in the step stands its name.
+Most are a hidden theorem in front of the proof, whose statement is found here and whose proof is a step or two; in the step stands its name. Those
+that only give terms and types are written by the program's own rules.
 """
 
 from __future__ import annotations
 
 import re
 from dataclasses import dataclass, field
-from typing import Dict, List, NamedTuple, Set, Tuple
+from functools import lru_cache
+from typing import Dict, List, NamedTuple, Sequence, Tuple
 
 from holls.notation import FORWARD
 from holls.packages.inference import check_depth, typed
+from holls.packages.matching_terms import matched
 from holls.packages.output import HIDDEN, PROOF, Plain, Steps, commands, conjuncts
 from holls.packages.printing import show
+from holls.packages.rewriting import TRUE, Endless, rewritten
 from holls.packages.scope import Asking
 from holls.packages.steps import Change, outside
-from holls.packages.terms import (Term, Type, beta, conj, eq, forall, frees, is_binder, is_operation, names, strip, subst, tyinst, tymatch, tyshow,
+from holls.packages.terms import (Term, Type, beta, conj, eq, forall, frees, is_binder, is_operation, same, strip, subst, tyinst, tymatch, tyshow,
                                   typeof, var)
 from holls.surface.errors import Misread
 from holls.surface.reader import Reader
 from holls.surface.table import EMPTY
+from holls.text import REMEMBERED
 
 RULES: Dict[str, str] = {
-    "GSYM": "GSYM th", "CONJ": "CONJ th th", "GEN_ALL": "GEN_ALL th", "BETA_RULE": "BETA_RULE th", "MATCH_MP": "MATCH_MP th th"}
+    "GSYM": "GSYM th", "CONJ": "CONJ th th", "GEN_ALL": "GEN_ALL th", "BETA_RULE": "BETA_RULE th", "MATCH_MP": "MATCH_MP th th",
+    "REWRITE_RULE": "REWRITE_RULE [th; ..] th", "PURE_REWRITE_RULE": "PURE_REWRITE_RULE [th; ..] th", "SPEC_ALL": "SPEC_ALL th",
+    "SPECL": "SPECL [`t`; ..] th", "ISPEC": "ISPEC `t` th", "ISPECL": "ISPECL [`t`; ..] th"}
 """The rules, and how each is written."""
+_AT_TERMS = ("SPECL", "ISPEC", "ISPECL", "SPEC_ALL")
+"""Those that make no theorem of their own."""
 _WORD = re.compile(r"(?<![A-Za-z0-9_'])(?:%s)(?![A-Za-z0-9_'])" % "|".join(RULES))
 _TOKEN = re.compile(r"`[^`]*`|[A-Za-z_][A-Za-z0-9_']*|[^ \t\r\n]")
 _MOST_NESTED = 50
 
 
 class Theorem(NamedTuple):
-    """A theorem's plain expression, and its statement."""
+    """A theorem's plain expression, its statement, and whether it rests on assumptions of the proof."""
 
     text: str
     statement: Term
+    is_assumed: bool = False
 
 
 @dataclass
@@ -56,6 +66,7 @@ class Lemmas:
         return Theorem(name, statement)
 
 
+@lru_cache(REMEMBERED)
 def has_rules(text: str) -> bool:
     """Whether a command's text has a rule outside of its quotations."""
     return bool(_WORD.search(text)) and bool(_WORD.search(outside(text)))
@@ -118,6 +129,8 @@ class _Reader:
             if self.token() != ")":
                 raise self.wrong(begin, "`)` is missing behind this theorem")
             return found
+        if word in _AT_TERMS and not is_argument:
+            return self.at_terms(word, begin, depth)
         if word in RULES and not is_argument:
             return self.rule(word, begin, depth)
         if word in FORWARD and not is_argument:
@@ -134,25 +147,111 @@ class _Reader:
             inner = self.theorem(depth + 1, True)
             if not is_binder(inner.statement, "!") or inner.statement[2][2] != typeof(term):
                 raise self.wrong(begin, "SPEC wants a theorem !x. p and a term of x's type")
-            bound = inner.statement[2]
-            return Theorem("(SPEC `%s` %s)" % (show(term, self.asking.general), inner.text), subst(bound[3], {bound[1]: term}))
+            return self.specialized(inner, [term])
         if word in ("SYM", "CONJUNCT1", "CONJUNCT2"):
             inner = self.theorem(depth + 1, True)
             wanted = "=" if word == "SYM" else "/\\"
             if not is_operation(inner.statement, wanted):
                 raise self.wrong(begin, "%s wants a theorem %s" % (word, "s = t" if word == "SYM" else "p /\\ q"))
             left, right = inner.statement[1][2], inner.statement[2]
-            return Theorem("(%s %s)" % (word, inner.text), eq(right, left) if word == "SYM" else left if word == "CONJUNCT1" else right)
+            made = eq(right, left) if word == "SYM" else left if word == "CONJUNCT1" else right
+            return Theorem("(%s %s)" % (word, inner.text), made, inner.is_assumed)
         if word == "MP":
             first, second = self.theorem(depth + 1, True), self.theorem(depth + 1, True)
             if not is_operation(first.statement, "==>"):
                 raise self.wrong(begin, "MP wants a theorem p ==> q first")
-            return Theorem("(MP %s %s)" % (first.text, second.text), first.statement[2])
+            return Theorem("(MP %s %s)" % (first.text, second.text), first.statement[2], first.is_assumed or second.is_assumed)
+        if word == "ASSUME":
+            start = self.at
+            term = self.quoted()
+            return Theorem("(ASSUME %s)" % self.text[start:self.at].strip(), term, True)
         raise self.wrong(begin, "%s isn't taken inside of a rule: a rule's theorem stands in front of the proof" % word)
+
+    # ---- Rules that give terms and types
+
+    def at_terms(self, word: str, begin: int, depth: int) -> Theorem:
+        """A rule that takes a theorem to terms, or to its own variables."""
+        given = [] if word == "SPEC_ALL" else self.terms() if word.endswith("L") else [self.quoted()]
+        inner = self.theorem(depth + 1, True)
+        variables, _ = strip(inner.statement)
+        if word == "SPEC_ALL":
+            return self.specialized(inner, variables)
+        types: Dict[str, Type] = {}
+        if len(given) > len(variables):
+            raise self.wrong(begin, "%s wants a theorem with %d variables under !, and this has %d" % (word, len(given), len(variables)))
+        for one, term in zip(variables, given):
+            fits = one[2] == typeof(term) if word == "SPECL" else tymatch(one[2], typeof(term), types) is not None
+            if not fits:
+                raise self.wrong(begin, "`%s` is of type `%s`, and %s wants one of type `%s`%s" % (
+                    show(term, self.asking.general), tyshow(typeof(term)), one[1], tyshow(one[2]), "; ISPECL finds types" if word == "SPECL" else ""))
+        text = _at_types(inner.text, types)
+        return self.specialized(Theorem(text, tyinst(inner.statement, types), inner.is_assumed), given)
+
+    def terms(self) -> List[Term]:
+        """A list of quotations."""
+        start = self.at
+        if self.token() != "[":
+            raise self.wrong(start, "a list of terms is missing here: [`t`; `u`]")
+        found: List[Term] = []
+        while True:
+            found.append(self.quoted())
+            start = self.at
+            end = self.token()
+            if end == "]":
+                return found
+            if end != ";":
+                raise self.wrong(start, "`;` or `]` is missing here")
+
+    def specialized(self, theorem: Theorem, given: Sequence[Term]) -> Theorem:
+        """A theorem at terms, which fit its outer variables."""
+        text, statement = theorem.text, theorem.statement
+        for term in given:
+            text, bound = "(SPEC `%s` %s)" % (show(term, self.asking.general), text), statement[2]
+            statement = subst(bound[3], {bound[1]: term})
+        return Theorem(text, statement, theorem.is_assumed)
+
+    # ---- Rules that make theorems
+
+    def theorems(self, depth: int) -> List[Theorem]:
+        """A list of theorems; names of lists stand for theirs."""
+        start = self.at
+        if self.token() != "[":
+            raise self.wrong(start, "a list of theorems is missing here: [th; th]")
+        found: List[Theorem] = []
+        while True:
+            start = self.at
+            first = _TOKEN.search(self.text, self.at)
+            if first is not None and first.group() == "]" and not found:
+                self.token()
+                return found
+            found += self.members(depth, first.group() if first else "")
+            start = self.at
+            end = self.token()
+            if end == "]":
+                return found
+            if end != ";":
+                raise self.wrong(start, "`;` or `]` is missing here")
+
+    def members(self, depth: int, word: str) -> List[Theorem]:
+        """The theorem that stands next in a list, or those of a list that is named there."""
+        names = self.asking.list_of(word)
+        if names is None:
+            return [self.theorem(depth + 1)]
+        start = self.at
+        self.token()
+        found: List[Theorem] = []
+        for one in names:
+            inner = _Reader(one, 0, self.lemmas)
+            try:
+                found.append(inner.theorem(depth + 1))
+            except Misread as error:
+                raise self.wrong(start, error.text) from None
+        return found
 
     def rule(self, word: str, begin: int, depth: int) -> Theorem:
         """A rule that makes a hidden theorem."""
-        first = self.theorem(depth + 1, True)
+        given = self.theorems(depth + 1) if word.endswith("REWRITE_RULE") else []
+        first = self.argument(depth, word, given)
         told = "%s makes no theorem of %s" % (word, first.text)
         if word == "GSYM":
             statement, steps = self.turned(first, begin)
@@ -162,11 +261,36 @@ class _Reader:
         if word == "GEN_ALL":
             free = [var(*one) for one in frees(first.statement).items()]
             return self.lemmas.add(forall(free, first.statement), [*_generalized(free), "ACCEPT_TAC %s" % first.text], told)
-        second = self.theorem(depth + 1, True)
+        if word.endswith("REWRITE_RULE"):
+            return self.rewritten(word, first, given, begin, told)
+        second = self.argument(depth, word, ())
         if word == "CONJ":
             both: Steps = [("CONJ_TAC", [["ACCEPT_TAC %s" % first.text], ["ACCEPT_TAC %s" % second.text]])]
             return self.lemmas.add(conj([first.statement, second.statement]), both, told)
         return self.matched(first, second, begin, told)
+
+    def argument(self, depth: int, word: str, others: Sequence[Theorem]) -> Theorem:
+        """The theorem of a rule that makes one, which can't rest on the proof's assumptions."""
+        found = self.theorem(depth + 1, True)
+        if found.is_assumed or any(one.is_assumed for one in others):
+            at = outside(self.text).rindex("ASSUME", 0, self.at)
+            raise Misread(at, at + len("ASSUME"), "ASSUME isn't taken inside of %s: its theorem stands in front of the proof" % word)
+        return found
+
+    def rewritten(self, word: str, theorem: Theorem, given: Sequence[Theorem], begin: int, told: str) -> Theorem:
+        """A theorem rewritten by others."""
+        is_pure = word.startswith("PURE")
+        try:
+            statement = rewritten(theorem.statement, [one.statement for one in given], is_pure)
+        except Endless as error:
+            raise self.wrong(begin, "%s doesn't end %s" % (word, error)) from None
+        if same(statement, theorem.statement):
+            raise self.wrong(begin, "%s changes nothing: no left side of its theorems matches a part of `%s`" % (
+                word, show(theorem.statement, self.asking.general)))
+        if statement == TRUE:
+            raise self.wrong(begin, "%s leaves T of its theorem: it says nothing any more" % word)
+        step = "%sREWRITE_TAC [%s]" % ("PURE_" if is_pure else "", "; ".join(one.text for one in given))
+        return self.lemmas.add(statement, ["MP_TAC %s" % theorem.text, step] + (["DISCH_THEN ACCEPT_TAC"] if is_pure else []), told)
 
     def turned(self, theorem: Theorem, begin: int) -> Tuple[Term, Steps]:
         """A theorem with all its equations from right to left, and the proof of it."""
@@ -188,11 +312,9 @@ class _Reader:
             raise self.wrong(begin, "MATCH_MP wants a theorem !x. p ==> q first")
         to: Dict[str, Term] = {}
         types: Dict[str, Type] = {}
-        if not _match(body[1][2], second.statement, {one[1] for one in variables}, to, types, {}):
+        if not matched(body[1][2], second.statement, {one[1] for one in variables}, to, types):
             raise self.wrong(begin, "the second theorem is no instance of what the first one asks")
-        text = first.text
-        if types and any(name != type_ for name, type_ in types.items()):
-            text = "(INST_TYPE [%s] %s)" % ("; ".join("`:%s`,`:%s`" % (tyshow(type_), name) for name, type_ in types.items()), text)
+        text = _at_types(first.text, types)
         rest = [var(one[1], tyinst(one, types)[2]) for one in variables if one[1] not in to]
         for one in variables:
             text = "(SPEC `%s` %s)" % (show(to.get(one[1], tyinst(one, types)), self.asking.general), text)
@@ -200,22 +322,11 @@ class _Reader:
         return self.lemmas.add(statement, [*_generalized(rest), "ACCEPT_TAC (MP %s %s)" % (text, second.text)], told)
 
 
+def _at_types(text: str, types: Dict[str, Type]) -> str:
+    """A theorem at types."""
+    made = ["`:%s`,`:%s`" % (tyshow(type_), name) for name, type_ in types.items() if name != type_]
+    return "(INST_TYPE [%s] %s)" % ("; ".join(made), text) if made else text
+
+
 def _generalized(variables: List[Term]) -> Steps:
     return ["X_GEN_TAC `%s:%s`" % (one[1], tyshow(one[2])) for one in variables]
-
-
-def _match(pattern: Term, term: Term, variables: Set[str], to: Dict[str, Term], types: Dict[str, Type], bound: Dict[str, str]) -> bool:
-    """Whether a term is an instance of a pattern; `to` and `types` then make it so."""
-    kind = pattern[0]
-    if kind == "v" and pattern[1] in variables and pattern[1] not in bound:
-        if tymatch(pattern[2], typeof(term), types) is None or set(names(term)) & set(bound.values()):
-            return False
-        return to.setdefault(pattern[1], term) == term
-    if kind != term[0]:
-        return False
-    if kind == "@":
-        return all(_match(pattern[at], term[at], variables, to, types, bound) for at in (1, 2))
-    if kind == "\\":
-        return tymatch(pattern[2], term[2], types) is not None and _match(pattern[3], term[3], variables, to, types, {**bound, pattern[1]: term[1]})
-    return bound.get(pattern[1], pattern[1]) == term[1] and tymatch(pattern[2], term[2], types) is not None
-

@@ -72,7 +72,7 @@ class Layout:
             self.tight = "(%s)" % self.type
         self.arguments = [[Argument(*one) for one in zip(argument_names(con, asking), con.types, con.kinds)] for con in data.constructors]
         self.count = len(data.constructors)
-        self.labels = _balanced([product(self._label_types(at)) for at in range(self.count)], "(%s,%s)sum")
+        self.labels = "(%s)" % _balanced([product(self._label_types(at)) for at in range(self.count)], "(%s,%s)sum")
         self.has_lists = any("l" in con.kinds for con in data.constructors)
 
     def constructor(self, at: int) -> Constructor:

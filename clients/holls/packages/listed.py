@@ -15,8 +15,19 @@ from holls.surface.errors import Misread
 
 FORM = "theorems NAME = [THEOREM; THEOREM; ..]"
 MOST = 500
+OF_TYPES = re.compile(r"(?<![A-Za-z0-9_'])(distinctness|injectivity)(?![A-Za-z0-9_'])(?:\s*\"([A-Za-z_][A-Za-z0-9_']*)\")?")
+"""HOL Light's words for what a type's constructors are."""
+_LIBRARY = {"num": {"distinctness": ("NOT_SUC",), "injectivity": ("SUC_INJ",)}, "list": {"distinctness": ("NOT_CONS_NIL",), "injectivity": ("CONS_11",)},
+            "option": {"distinctness": ("option_DISTINCT",), "injectivity": ("option_INJ",)},
+            "sum": {"distinctness": ("sum_DISTINCT",), "injectivity": ("sum_INJECTIVE",)}, "prod": {"injectivity": ("PAIR_EQ",)}}
+_MOST_PARTS = 20
 _LIST = re.compile(r"\s*theorems\s+[A-Za-z_][A-Za-z0-9_']*\s*=\s*\[(.*)\]\s*\Z", re.S)
 _WORD = re.compile(r"[A-Za-z_][A-Za-z0-9_']*")
+
+
+def may_have_types(text: str) -> bool:
+    """Whether one of HOL Light's words for what a type's constructors are may stand in a text: looked for in no time."""
+    return "distinctness" in text or "injectivity" in text
 
 
 def read(text: str, asking: Asking) -> Tuple[str, Tuple[str, ...]]:
@@ -57,6 +68,23 @@ def _pieces(text: str) -> List[str]:
             found.append(text[last:at])
             last = at + 1
     return found + [text[last:]]
+
+
+def of_types(text: str, asking: Asking) -> List[Change]:
+    """What a command has in place of `distinctness "t"` and `injectivity "t"`. Raises `Misread`."""
+    plain = outside(text)
+    found: List[Change] = []
+    for one in OF_TYPES.finditer(plain):
+        word, name = one.groups()
+        known = _LIBRARY.get(name or "")
+        of_library = [theorem for theorem in (known or {}).get(word, ()) if asking.is_theorem(theorem)]
+        stem = "%s_%s" % (name, "DISTINCT" if word == "distinctness" else "INJECTIVE")
+        own = [theorem for theorem in (stem + (str(number) if number > 1 else "") for number in range(1, _MOST_PARTS)) if asking.is_theorem(theorem)]
+        if name is None or not of_library and not own:
+            why = "is written %s \"TYPE\"" % word if name is None else "isn't known of `%s`: its constructors have nothing to tell, or it isn't by define_type" % name
+            raise Misread(one.start(), one.end(), "`%s` %s" % (word, why))
+        found.append(Change(one.start(), one.end(), "; ".join(of_library or own)))
+    return found
 
 
 def changes(text: str, asking: Asking) -> List[Change]:

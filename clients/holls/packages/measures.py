@@ -29,6 +29,8 @@ if TYPE_CHECKING:
 
 _MOST_CHOICES = 64
 _SMALLER = "pk_SMALLER_TAC"
+_OF_PAIRS = {"FST": "FST", "SND": "SND", "UNCURRY": "UNCURRY_DEF"}
+"""What a measure of a pair may be written with, and the theorems that reduce it."""
 _WRONG = "that the measure is smaller at each call isn't proved by the steps that are tried: prove %s and name it: by_measure .. with THEOREM"
 
 
@@ -207,7 +209,8 @@ class _Recursion:
         chain = self._chain(fact)
         if chain is not None:
             return chain
-        sizes = sorted(name for name in self._constants({"": fact.goal}) if name.endswith("_SIZE"))
+        constants = self._constants({"": fact.goal})
+        sizes = sorted(name for name in constants if name.endswith("_SIZE")) + [_OF_PAIRS[name] for name in sorted(_OF_PAIRS) if name in constants]
         rewrite = "REWRITE_TAC [%s] THEN " % "; ".join([*sizes, "FORALL_SIMP"]) if sizes else ""
         return ["TRY (CHANGED_TAC (%sBETA_TAC))" % rewrite if sizes else "ALL_TAC", _SMALLER]
 

@@ -141,4 +141,5 @@ class Output:
                     word, tokens(text), " ".join(text.split()[:2]), MOST_TOKENS))
         for name in self.asking.own.theorems:
             if self.asking.is_theorem(name):
-                raise Misread(0, end, "the theorem `%s`, which this %s makes, stands already: another name for one of the two" % (name, word))
+                told = "the theorem `%s`, which this %s makes, stands already: another name for one of the two" % (name, word)
+                raise Misread(0, end, told, taken=("thm", name))

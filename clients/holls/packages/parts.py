@@ -15,14 +15,15 @@ from holls.surface.translation import Translation
 from holls.text import Command
 
 
-@dataclass(frozen=True)
 class Part(Command):
-    """A plain command of a package. Its places are those of the package's text that it comes from; `is_first` of the package's commands."""
+    """A plain command of a package, at a command's place. What leads from it to the file is the package's text that it comes from; `is_first` of the
+    package's commands."""
 
-    whole: Command
-    plain: Plain
-    is_first: bool
-    wrong: Optional[Misread] = None
+    __slots__ = ("whole", "plain", "is_first", "wrong")
+
+    def __init__(self, at: Command, whole: Command, plain: Plain, is_first: bool, wrong: Optional[Misread] = None) -> None:
+        super().__init__(plain.text, at.start, at.end, at.marks)
+        self.whole, self.plain, self.is_first, self.wrong = whole, plain, is_first, wrong
 
     @property
     def package(self) -> Command:
@@ -64,8 +65,8 @@ class Part(Command):
 def parts(command: Command, expansion: Expansion) -> List[Command]:
     """A package's commands; where it can't be expanded one that is sent as an empty text."""
     if expansion.error is not None:
-        return [Part("", command.start, command.end, command.marks, command, Plain("", PUBLIC, None), True, expansion.error)]
-    return [Part(one.text, command.start, command.end, command.marks, command, one, not number) for number, one in enumerate(expansion.plain)]
+        return [Part(command, command, Plain("", PUBLIC, None), True, expansion.error)]
+    return [Part(command, command, one, not number) for number, one in enumerate(expansion.plain)]
 
 
 @dataclass
@@ -91,7 +92,7 @@ def in_front(goal: Command, steps: Sequence[Tuple[Command, Translation]], standi
             found.placed[command.start] = translation.text, Misread(0, 1, "this is nested too deeply for a package")
             del lemmas.plain[done:]
         for one in lemmas.plain[done:]:
-            found.parts.append(Part(one.text, goal.start, goal.end, goal.marks, command, one, not found.parts))
+            found.parts.append(Part(goal, command, one, not found.parts))
     return found
 
 

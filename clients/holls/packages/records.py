@@ -49,7 +49,7 @@ def _check(name: str, constructor: WrittenConstructor, out: Output) -> None:
         seen.add(one.name)
         for constant in ("%s_%s" % (name, one.name), "set_%s_%s" % (name, one.name)):
             if out.asking.is_constant(constant):
-                raise Misread(*where, "the constant `%s` of the field `%s` stands already" % (constant, one.name))
+                raise Misread(*where, "the constant `%s` of the field `%s` stands already" % (constant, one.name), taken=("const", constant))
 
 
 class _Record:

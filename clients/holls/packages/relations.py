@@ -61,8 +61,11 @@ class _Relations:
             for term in (*rule.arguments, *rule.variables, *([rule.condition] if rule.condition else [])):
                 taken |= names(term)
         fresh = out.asking.fresh
-        self.arguments = {one: [var(fresh("a%d" % at, taken), type_) for at, type_ in enumerate(args_of(type_, arity(type_))[0])]
-                          for one, type_ in rest.items()}
+        self.arguments: Dict[str, List[Term]] = {}
+        for one, type_ in rest.items():
+            every = args_of(type_, arity(type_))[0]
+            called = ["a"] if len(every) == 1 else ["a%d" % at for at in range(len(every))]
+            self.arguments[one] = [var(fresh(name_, taken), own) for name_, own in zip(called, every)]
         self.first = [var(fresh(one + "'", taken), rest[one]) for one in self.names]
         self.second = [var(fresh(one + "''", taken), rest[one]) for one in self.names]
         self.own: Env = {one: app(const(one, type_), *found.parameters) for one, type_ in found.relations.items()}

@@ -15,26 +15,29 @@ from holls.surface.translation import Translation
 _NAMES = re.compile(r"[A-Za-z_][A-Za-z0-9_']*")
 Placed = Tuple[str, Union[List[Change], Misread]]
 """A step's text, and what stands in place of its rules, or what is wrong with one."""
-_USING = ("e", "deftac", "theorems")
+USING = ("e", "deftac", "theorems")
 """The commands in which lists of theorems stand."""
 
 
 def translated(found: Translation, word: str, lists: AbstractSet[str], standing: Callable[[], Standing], placed: Optional[Placed] = None) -> Translation:
     """A command's translation with what packages put into it; `placed` is what stands in place of its rules."""
-    if word not in _USING or found.error is not None:
+    if word not in USING or found.error is not None:
         return found
-    has_step = word == "e" and any(one in found.text for one in steps.WORDS)
-    has_list = bool(lists) and any(one in lists for one in _NAMES.findall(found.text))
-    has_rules = placed is not None and placed[0] == found.text
-    if not has_step and not has_list and not has_rules:
+    text = found.text
+    has_step = word == "e" and bool(steps.MAYBE.search(text))
+    has_list = bool(lists) and not lists.isdisjoint(_NAMES.findall(text))
+    has_rules = placed is not None and placed[0] == text
+    has_types = listed.may_have_types(text) and bool(listed.OF_TYPES.search(text))
+    if not has_step and not has_list and not has_rules and not has_types:
         return found
     now = standing()
     asking = Asking(now)
     try:
         if has_rules and isinstance(placed[1], Misread):
             raise placed[1]
-        made: List[Change] = listed.changes(found.text, asking) if has_list else []
-        made += placed[1] if has_rules else []
+        rules: List[Change] = placed[1] if has_rules else []
+        made = rules + (_outside(listed.changes(found.text, asking), rules) if has_list else [])
+        made += _outside(listed.of_types(found.text, asking), rules) if has_types else []
         if has_step:
             statement = now.open[1] if now.open else None
             made += steps.changes(found.text, asking, statement, now.steps)
@@ -43,6 +46,11 @@ def translated(found: Translation, word: str, lists: AbstractSet[str], standing:
     except RecursionError:
         return Translation("", None, Misread(0, 1, "this is nested too deeply for a package"), found.answers)
     return replaced(found, made) if made else found
+
+
+def _outside(changes: Sequence[Change], others: Sequence[Change]) -> List[Change]:
+    """Changes that lie in no other one."""
+    return [one for one in changes if not any(other.start <= one.start < other.end for other in others)]
 
 
 def replaced(found: Translation, changes: Sequence[Change]) -> Translation:

@@ -91,7 +91,7 @@ class RuleReader:
         if concluded.__class__ in (Connective, Negation, Binder) or head.__class__ is not Name:
             raise error(concluded, "a rule ends in the relation, applied to arguments: `.. ==> R x y`")
         if self.asking.is_constant(head.text):
-            raise error(head, "the constant `%s` stands already: another name for the relation" % head.text)
+            raise error(head, "the constant `%s` stands already: another name for the relation" % head.text, ("const", head.text))
         if self.arities.setdefault(head.text, len(arguments)) != len(arguments):
             raise error(concluded, "`%s` has %d arguments here and %d above" % (head.text, len(arguments), self.arities[head.text]))
 

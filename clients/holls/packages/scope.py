@@ -85,6 +85,7 @@ def _library() -> Dict[str, Data]:
 
 LIBRARY = _library()
 """The inductive types of theories/."""
+_STEPS = ("e", "b", "r")
 BASE = "pk_CHOSEN"
 """A theorem of the theory on which packages rest."""
 THEORY = "packages"
@@ -138,6 +139,7 @@ class Standing:
     data: Dict[str, Data] = field(default_factory=dict)
     relations: Dict[str, Relation] = field(default_factory=dict)
     lists: Dict[str, Tuple[str, ...]] = field(default_factory=dict)
+    simple: Dict[str, None] = field(default_factory=dict)
     functions: Set[str] = field(default_factory=set)
     definitions: Dict[str, str] = field(default_factory=dict)
     open: Optional[Tuple[str, str]] = None
@@ -148,7 +150,7 @@ class Standing:
         """What stands where these have been imported."""
         made = Standing()
         for other in imported:
-            for key in ("constants", "arities", "theorems", "data", "relations", "lists", "definitions"):
+            for key in ("constants", "arities", "theorems", "data", "relations", "lists", "simple", "definitions"):
                 getattr(made, key).update(getattr(other, key))
             made.functions |= other.functions
         return made
@@ -161,15 +163,16 @@ class Standing:
 
     def take(self, text: str) -> None:
         """Takes what a plain command makes, by its text."""
-        word = text.split(None, 1)[0] if text.split() else ""
+        word = next(iter(text.split(None, 1)), "")
+        if word in _STEPS:
+            self.steps.append(text)
+            return
         parts = text.split("`")
         names = parts[0].split()[1:]
         name = names[0] if names else ""
         quoted = parts[1] if len(parts) > 1 else ""
         if word == "g":
             self.open, self.steps = (name, quoted), []
-        elif word in ("e", "b", "r"):
-            self.steps.append(text)
         elif word == "qed" and self.open:
             self.theorems.setdefault(*self.open)
         elif word == "new_axiom" and name:

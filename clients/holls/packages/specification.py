@@ -44,7 +44,7 @@ def _taken(wanted: List[Word], theorem: Word, out: Output) -> Tuple[List[Term], 
     renamed: Dict[str, Term] = {}
     for number, one in enumerate(wanted):
         if out.asking.is_constant(one.text) or one.text in [other[1] for other in variables]:
-            raise Misread(one.start, one.end, "the constant `%s` stands already: another name for this one" % one.text)
+            raise Misread(one.start, one.end, "the constant `%s` stands already: another name for this one" % one.text, taken=("const", one.text))
         if not is_binder(body, "?"):
             raise Misread(theorem.start, theorem.end, "`%s` says that %d exist%s, and %d constants are named" % (
                 theorem.text, number, "s" if number == 1 else "", len(wanted)))

@@ -13,7 +13,7 @@ from typing import Dict, List, NamedTuple, Optional, Sequence, Set, Tuple
 from holls.packages.inference import check_depth, typed
 from holls.packages.output import goals
 from holls.packages.printing import show
-from holls.packages.scope import Asking, Data
+from holls.packages.scope import LIBRARY, THEORY, Asking, Data
 from holls.packages.terms import BOOL, Term, Type, forall, frees, fresh, is_operation, lams, names, spine, strip, subst, tyshow, typeof, var
 from holls.surface.errors import Misread
 from holls.surface.reader import Reader
@@ -21,6 +21,8 @@ from holls.surface.table import EMPTY
 
 WORDS: Dict[str, str] = {"INDUCT_ON": "INDUCT_ON `x`", "CASES_ON": "CASES_ON `t`", "RULE_INDUCT": "RULE_INDUCT R"}
 """The steps, and how each is written."""
+MAYBE = re.compile("|".join(WORDS))
+"""What a text has in which one of them may stand."""
 _STEP = re.compile(r"(?<![A-Za-z0-9_'])(INDUCT_ON|CASES_ON|RULE_INDUCT)(?![A-Za-z0-9_'])\s*(?:`([^`]*)`|([A-Za-z_][A-Za-z0-9_']*))?")
 _TAKING = re.compile(r"\s*(?:(REPEAT GEN_TAC)|(GEN_TAC)|(X_GEN_TAC)\s*`([^`]*)`|(DISCH_TAC))\s*\Z")
 
@@ -160,6 +162,8 @@ class _Step:
         term, steps = self._term()
         type_ = typeof(term)
         data = self.asking.data_of(type_[0]) if isinstance(type_, tuple) else None
+        if data is None and not self.asking.has_base and isinstance(type_, tuple) and type_[0] in LIBRARY:
+            raise self.wrong("%s at a %s rests on the theory %s: write import %s;; above the proof" % (self.word, type_[0], THEORY, THEORY))
         if data is None:
             raise self.wrong("`%s` is of type `%s`, which is no inductive type" % (self.argument, tyshow(type_)))
         if self.word == "INDUCT_ON" and term[0] != "v":

@@ -9,7 +9,7 @@ from holls.packages.output import HIDDEN, PUBLIC, Output, Span, Steps, chunks, c
 from holls.packages.scope import Data
 from holls.packages.terms import fresh, fun, tyshow
 
-_MOST_PLAIN = 8
+_MOST_PLAIN = 6
 """With more constructors some texts are constants, so that they don't stand once for each."""
 _ALL_LISTS = "LENGTH; LENGTH_APPEND; ADD_CLAUSES"
 
@@ -23,11 +23,14 @@ class TypeCommands:
         self.layout = layout = Layout(data, out.asking)
         self.result = data.result
         self.tree = "((%s,num)prod)pk_any" % layout.labels
-        self.arities = "pk_%s_AR:%s->num" % (self.name, layout.labels)
+        self.is_plain = layout.count <= _MOST_PLAIN
+        arities = cases([layout.arity(at) for at in range(layout.count)]) if self.is_plain else "pk_%s_AR" % self.name
+        self.arities = "%s:%s->num" % (arities, layout.labels)
         self.make = "mk_%s:%s->%s" % (self.name, self.tree, layout.type)
         self.take = "dest_%s:%s->%s" % (self.name, layout.tight, self.tree)
-        self.counting = "pk_%s_AR_DEF; sum_CASE; K_THM; FST; SND; %s; NUM_EQ_CLAUSES; FORALL_SIMP" % (self.name, _ALL_LISTS)
-        self.definitions = "; ".join("pk_%s_DEF" % con.name for con in data.constructors)
+        unfolded = "" if self.is_plain else "pk_%s_AR_DEF; " % self.name
+        self.counting = "%ssum_CASE; K_THM; FST; SND; %s; NUM_EQ_CLAUSES; FORALL_SIMP" % (unfolded, _ALL_LISTS)
+        self.definitions = "PURE_REWRITE_TAC [%s]" % "; ".join("pk_%s_DEF" % con.name for con in data.constructors)
 
     def emit(self) -> None:
         """Makes all commands."""
@@ -41,24 +44,30 @@ class TypeCommands:
     def _span(self, at: int) -> Optional[Span]:
         return self.spans.get(self.data.constructors[at].name)
 
-    def _at(self, theorem: str, more: str = "") -> str:
-        """A general theorem at this type."""
-        layout = self.layout
-        typed = "INST_TYPE [`:%s`,`:T'`; `:%s`,`:A`%s] %s" % (layout.type, layout.labels, more, theorem)
-        return "(MP (SPEC `%s` (SPEC `%s` (SPEC `%s` (%s)))) pk_%s_TYPED)" % (self.take, self.make, self.arities, typed, self.name)
+    def _with(self, theorem: str, more: str = "", at: str = "") -> str:
+        """The steps that put a general theorem at this type in front of a goal."""
+        layout, name = self.layout, self.name
+        general = "INST_TYPE [`:%s`,`:T'`; `:%s`,`:A`%s] %s" % (layout.type, layout.labels, more, theorem)
+        for term in ([at] if at else []) + [self.arities, self.make, self.take]:
+            general = "SPEC `%s` (%s)" % (term, general)
+        return "MP_TAC (%s) THEN MATCH_MP_TAC ANTS THEN CONJ_TAC THENL [REWRITE_TAC [pk_def_TYPED; pk_%s_ABS; pk_%s_REP; FORALL_SIMP]; ALL_TAC]" % (
+            general, name, name)
+
+    def _counted(self, more: str = "") -> str:
+        """The steps by which a constructor has as many parts as its label says, and what else some theorems make of a goal."""
+        found = "REWRITE_TAC [%s%s]" % (self.counting, more)
+        return found + (" THEN BETA_TAC THEN REWRITE_TAC [%s%s]" % (self.counting, more) if self.layout.has_lists else "")
 
     # ---- The type and its constructors
 
     def _type(self) -> None:
         name, layout, out, data = self.name, self.layout, self.out, self.data
-        arities = cases([layout.arity(at) for at in range(layout.count)])
-        out.put("new_definition pk_%s_AR_DEF `pk_%s_AR (a:%s) = %s a`" % (name, name, layout.labels, arities))
-        out.made("pk_%s_AR_DEF" % name, None)
+        if not self.is_plain:
+            arities = cases([layout.arity(at) for at in range(layout.count)])
+            out.put("new_definition pk_%s_AR_DEF `pk_%s_AR (a:%s) = %s a`" % (name, name, layout.labels, arities))
+            out.made("pk_%s_AR_DEF" % name, None)
         first = next(at for at in range(layout.count) if "r" not in data.constructors[at].kinds)
-        proof = "REWRITE_TAC [pk_WELL_ROSE; ALL; %s]" % self.counting
-        if layout.has_lists:
-            proof += " THEN BETA_TAC THEN REWRITE_TAC [%s]" % self.counting
-        out.prove("pk_%s_EXISTS" % name, "pk_WELL (%s) (pk_ROSE %s NIL)" % (self.arities, layout.witness(first)), proof)
+        out.prove("pk_%s_EXISTS" % name, "pk_WELL (%s) (pk_ROSE %s NIL)" % (self.arities, layout.witness(first)), self._counted("; pk_WELL_ROSE; ALL"))
         out.put("new_basic_type_definition %s mk_%s dest_%s pk_%s_ABS pk_%s_REP pk_%s_EXISTS" % ((name,) * 6), PUBLIC)
         out.asking.own.arities[name] = len(data.parameters)
         for theorem in ("pk_%s_ABS", "pk_%s_REP"):
@@ -68,25 +77,22 @@ class TypeCommands:
         name, layout, out = self.name, self.layout, self.out
         for at, con in enumerate(self.data.constructors):
             arguments = "".join(" (%s:%s)" % (one.name, tyshow(one.type)) for one in layout.arguments[at])
-            body = "(mk_%s (pk_ROSE %s (MAP dest_%s %s)):%s)" % (name, layout.label(at), name, layout.children(at), layout.type)
+            body = "(pk_MADE mk_%s dest_%s %s %s:%s)" % (name, name, layout.label(at), layout.children(at), layout.type)
             out.put("new_definition pk_%s_DEF `%s%s = %s`" % (con.name, con.name, arguments, body), PUBLIC, self._span(at))
             out.made("pk_%s_DEF" % con.name, None)
         for at, con in enumerate(self.data.constructors):
             out.constant(con.name, fun(*con.types, self.data.type))
-        out.prove("pk_%s_TYPED" % name, "pk_TYPED (%s) (%s) (%s)" % (self.arities, self.make, self.take),
-                  "REWRITE_TAC [pk_TYPED_DEF; pk_%s_ABS; pk_%s_REP; FORALL_SIMP]" % (name, name))
 
     # ---- Induction
 
     def _induction(self) -> None:
         layout, name = self.layout, self.name
         hypotheses = layout.every(self._inductive)
-        typed = "SYM (SPEC `P:%s->bool` (INST_TYPE [`:%s`,`:A`; `:bool`,`:B`] ETA_AX))" % (layout.tight, layout.type)
         opened = "REPEAT (GEN_TAC ORELSE DISCH_THEN SUBST1_TAC)" if layout.has_lists else "REPEAT GEN_TAC"
         symmetric = "; ".join(self._symmetric(at) for at in range(layout.count))
         self.out.prove(self.data.induct, "!P. %s ==> (!) P" % hypotheses, " THEN ".join((
-            "GEN_TAC THEN STRIP_TAC THEN SUBST1_TAC (%s) THEN MATCH_MP_TAC %s" % (typed, self._at("pk_TYPE_INDUCT")), self._unfolded(),
-            "REPEAT CONJ_TAC", opened, "REWRITE_TAC [ALL_APPEND; MAP; ALL; %s]" % symmetric,
+            self._with("pk_MADE_INDUCT") + " THEN DISCH_TAC THEN GEN_TAC THEN STRIP_TAC THEN FIRST_ASSUM MATCH_MP_TAC", self._unfolded(), "REPEAT CONJ_TAC", opened,
+            "REWRITE_TAC [ALL_APPEND; ALL; %s]" % symmetric,
             "REPEAT DISCH_TAC THEN ASM_REWRITE_TAC [] THEN FIRST_ASSUM MATCH_MP_TAC THEN ASM_REWRITE_TAC []")), PUBLIC)
         self.out.prove(name + "_INDUCTION", "!P. %s ==> !x. P x" % hypotheses, "MP_TAC %s THEN REWRITE_TAC [ETA_AX]" % self.data.induct, PUBLIC)
 
@@ -105,8 +111,9 @@ class TypeCommands:
 
     def _unfolded(self) -> str:
         """The steps from all labels and children to each constructor."""
-        found = "REWRITE_TAC [FORALL_SUM] THEN BETA_TAC THEN REWRITE_TAC [FORALL_PAIR; FORALL_ONE; pk_%s_AR_DEF; sum_CASE; K_THM; pk_ALLK] " \
-                "THEN BETA_TAC THEN REWRITE_TAC [FORALL_PAIR; FORALL_ONE; sum_CASE; K_THM; pk_ALLK; FST; SND] THEN BETA_TAC" % self.name
+        unfolded = "" if self.is_plain else "pk_%s_AR_DEF; " % self.name
+        found = "REWRITE_TAC [FORALL_SUM] THEN BETA_TAC THEN REWRITE_TAC [FORALL_PAIR; FORALL_ONE; %ssum_CASE; K_THM; pk_ALLK] " \
+                "THEN BETA_TAC THEN REWRITE_TAC [FORALL_PAIR; FORALL_ONE; sum_CASE; K_THM; pk_ALLK; FST; SND] THEN BETA_TAC" % unfolded
         if self.layout.has_lists:
             found += " THEN REWRITE_TAC [FST; SND] THEN REWRITE_TAC [pk_ALLK; pk_ALLK_ADD; pk_ALLK_LEN] THEN BETA_TAC " \
                      "THEN REWRITE_TAC [pk_ALLK; pk_ALLK_LEN] THEN BETA_TAC"
@@ -115,29 +122,21 @@ class TypeCommands:
     # ---- Recursion
 
     def _recursion(self) -> None:
-        name, layout, result = self.name, self.layout, self.result
-        trees = layout.every(lambda at: "fn %s = h %s %s (MAP fn %s)" % (layout.term(at), layout.label(at), layout.children(at), layout.children(at)))
-        label = "h:%s->%s list->%s list->%s" % (layout.labels, layout.tight, result, result)
-        general = self._at("pk_TYPE_RECURSION", "; `:%s`,`:B`" % result)
-        closed = "REWRITE_TAC [%s]" % self.counting.replace("; NUM_EQ_CLAUSES", "")
-        if layout.has_lists:
-            closed += " THEN BETA_TAC THEN REWRITE_TAC [FST; SND; %s]" % _ALL_LISTS
-        self.out.prove("pk_%s_REC" % name, "!h. ?fn:%s->%s. %s" % (layout.tight, result, trees), " THEN ".join((
-            "GEN_TAC THEN MP_TAC (SPEC `%s` %s) THEN REWRITE_TAC [pk_ALLK_THM] THEN BETA_TAC THEN STRIP_TAC" % (label, general),
-            "EXISTS_TAC `fn:%s->%s` THEN REPEAT CONJ_TAC THEN REPEAT GEN_TAC" % (layout.tight, result),
-            "PURE_REWRITE_TAC [%s] THEN FIRST_ASSUM MATCH_MP_TAC" % self.definitions, closed)))
+        layout, result = self.layout, self.result
         functions = " ".join("(f%d:%s)" % (at, layout.recursion_type(at, result)) for at in range(layout.count))
         body, unfold = self._recursor(functions)
-        self.out.prove(self.data.recursion, "!%s. ?fn:%s->%s. %s" % (functions, layout.tight, result, layout.every(self._recursive)),
-                       "REPEAT GEN_TAC THEN MP_TAC (SPEC `%s` pk_%s_REC) THEN BETA_TAC THEN PURE_REWRITE_TAC [%ssum_CASE] THEN BETA_TAC THEN "
-                       "PURE_REWRITE_TAC [FST; SND; HD; TL; MAP; MAP_APPEND; pk_TAKE; pk_DROP] THEN DISCH_THEN ACCEPT_TAC" % (body, name, unfold), PUBLIC)
+        self.out.prove(self.data.recursion, "!%s. ?fn:%s->%s. %s" % (functions, layout.tight, result, layout.every(self._recursive)), " THEN ".join((
+            "REPEAT GEN_TAC THEN %s THEN STRIP_TAC" % self._with("pk_MADE_RECURSION", "; `:%s`,`:B`" % result, body),
+            "EXISTS_TAC `fn:%s->%s` THEN REPEAT CONJ_TAC THEN REPEAT GEN_TAC THEN %s" % (layout.tight, result, self.definitions),
+            "FIRST_ASSUM MATCH_MP_TAC THEN BETA_TAC THEN PURE_REWRITE_TAC [%ssum_CASE] THEN BETA_TAC" % unfold,
+            self._counted("; HD; TL; MAP; MAP_APPEND; pk_TAKE; pk_DROP"))), PUBLIC)
 
     def _recursor(self, functions: str) -> Tuple[str, str]:
         """What is done at a label with its children and their values; and a theorem to unfold it."""
         name, layout = self.name, self.layout
         every = cases([self._at_label(at) for at in range(layout.count)])
         bound = "(a:%s) (l:%s list) (m:%s list)" % (layout.labels, layout.tight, self.result)
-        if layout.count <= _MOST_PLAIN:
+        if self.is_plain:
             return "\\%s. %s a" % (bound, every), ""
         self.out.put("new_definition pk_%s_H_DEF `pk_%s_H %s %s = %s a`" % (name, name, functions, bound, every))
         self.out.made("pk_%s_H_DEF" % name, None)
@@ -160,23 +159,27 @@ class TypeCommands:
 
     def _equations(self) -> None:
         distinct, injective = self._pairs()
-        if not distinct and not injective:
-            return
-        layout, name = self.layout, self.name
-        trees: List[str] = []
+        counted = self._counted("; sum_INJECTIVE; sum_DISTINCT; INR_NOT_INL")
+        every = "REPEAT CONJ_TAC THEN REPEAT GEN_TAC"
+        each = "%%s THEN DISCH_TAC THEN %s THEN %s THEN FIRST_ASSUM MATCH_MP_TAC THEN %s" % (every, self.definitions, counted)
+        if distinct and not self.is_plain:
+            take = "MATCH_MP_TAC (SPEC `%s` (INST_TYPE [`:%s`,`:A`; `:%s`,`:B`] pk_DIFFERENT))" % (self.take, self.layout.type, self.tree)
+            apart = "%s THEN %s THEN REWRITE_TAC [%s; pk_ROSE_INJ; sum_INJECTIVE; sum_DISTINCT; INR_NOT_INL]" % (every, take, "; ".join(self._taken(each)))
+        else:
+            apart = each % self._with("pk_MADE_NE")
+        for kind, parts, proof in (("DISTINCT", distinct, apart), ("INJECTIVE", injective, each % self._with("pk_MADE_EQ") + self._injected())):
+            for number, part in enumerate(chunks(parts)):
+                self.out.prove("%s_%s%s" % (self.name, kind, number + 1 if number else ""), " /\\ ".join(part), proof, PUBLIC)
+
+    def _taken(self, each: str) -> List[str]:
+        """The names of theorems that say once for each constructor what it is made of."""
+        name, layout, found = self.name, self.layout, []
         every = [layout.forall(at, "dest_%s %s = pk_ROSE %s (MAP dest_%s %s)" % (name, layout.term(at), layout.label(at), name, layout.children(at)))
                  for at in range(layout.count)]
-        proof = "REPEAT CONJ_TAC THEN REPEAT GEN_TAC THEN PURE_REWRITE_TAC [%s] THEN REWRITE_TAC [SYM pk_%s_REP; pk_WELL_ROSE; LENGTH_MAP; %s] THEN " \
-                "BETA_TAC THEN REWRITE_TAC [FST; SND; %s; %s]" % (self.definitions, name, self.counting, _ALL_LISTS, self._at("pk_TYPE_MAPS"))
         for part in chunks(every):
-            trees.append("pk_%s_DEST%s" % (name, len(trees) + 1 if trees else ""))
-            self.out.prove(trees[-1], " /\\ ".join(part), proof)
-        first = "ONCE_REWRITE_TAC [SYM (SPEC `y:%s` (SPEC `x:%s` (CONJUNCT2 %s)))]" % (layout.type, layout.type, self._at("pk_TYPE_DEST"))
-        start = "REPEAT CONJ_TAC THEN REPEAT GEN_TAC THEN %s THEN REWRITE_TAC [%s; pk_ROSE_INJ; %s; sum_INJECTIVE; sum_DISTINCT; INR_NOT_INL]" % (
-            first, "; ".join(trees), self._at("pk_MAP_INJ"))
-        for kind, parts, end in (("DISTINCT", distinct, ""), ("INJECTIVE", injective, self._injected())):
-            for number, part in enumerate(chunks(parts)):
-                self.out.prove("%s_%s%s" % (name, kind, number + 1 if number else ""), " /\\ ".join(part), start + end, PUBLIC)
+            found.append("pk_%s_DEST%s" % (name, len(found) + 1 if found else ""))
+            self.out.prove(found[-1], " /\\ ".join(part), each % self._with("pk_MADE_DEST"))
+        return found
 
     def _pairs(self) -> Tuple[List[str], List[str]]:
         """That constructors are apart, and that one of equal ones has equal arguments."""
@@ -199,8 +202,7 @@ class TypeCommands:
         """From equal labels and equal children that the arguments are equal: lists of equal lengths are taken off one by one."""
         ways = [self._peeled(at) for at in range(self.layout.count) if self.data.constructors[at].kinds.count("l") > 1]
         closed = "EQ_TAC THEN STRIP_TAC THEN ASM_REWRITE_TAC []" + (" THEN FIRST [%s]" % "; ".join(ways) if ways else "")
-        return " THEN REWRITE_TAC [LIST_EQ_CLAUSES; PAIR_EQ; FORALL_SIMP] THEN REWRITE_TAC [CONJUNCT2 %s; FORALL_SIMP] THEN %s" % (
-            self._at("pk_TYPE_DEST"), closed)
+        return " THEN REWRITE_TAC [LIST_EQ_CLAUSES; PAIR_EQ; FORALL_SIMP] THEN " + closed
 
     def _peeled(self, at: int) -> str:
         lists = [one.name for one in self.layout.arguments[at] if one.kind == "l"]

@@ -2,7 +2,7 @@
 
 from __future__ import annotations
 
-from typing import Callable, FrozenSet, List, Optional, Sequence, Tuple
+from typing import Callable, Collection, FrozenSet, List, Optional, Sequence, Tuple
 
 from holls.protocol import Goal, Goals
 from holls.prover import clock, numerals, polynomials, trying, typed
@@ -17,6 +17,8 @@ from holls.prover.writing import Quoter, Unwritable
 
 NEEDED = "LE_NNF"
 """A theorem of the theory on which the steps rest."""
+LAWS = ("MIN_SPLIT", "MAX_SPLIT")
+"""Theorems of theories/naturals.hol by which least and greatest numbers are taken."""
 _MOST_PARTS = 6
 """A longer sum is made of parts."""
 _MOST_CASES = 6
@@ -36,10 +38,11 @@ class NotFound(Exception):
 
 
 class Arithmetic:
-    """Closes goals of a proof in a server, until a time."""
+    """Closes goals of a proof in a server, until a time, where some theorems stand."""
 
-    def __init__(self, asker: Asker, reader: Reader, quoter: Quoter, until: float) -> None:
+    def __init__(self, asker: Asker, reader: Reader, quoter: Quoter, until: float, theorems: Collection[str]) -> None:
         self.asker, self.reader, self.quoter, self.until = asker, reader, quoter, until
+        self._named_laws = frozenset(name for name in LAWS if name in theorems)
         self._nodes = 0
 
     def prove(self, goals: Goals) -> Optional[Step]:
@@ -150,7 +153,7 @@ class Arithmetic:
             if typed.mk_not(term) in shown.assumptions:
                 return self._closed(["UNDISCH_TAC %s" % self.quoter.quote(typed.mk_not(term)), "ASM_REWRITE_TAC []"], len(goals) - 1)
         self._nodes += 1
-        situation = situation_of(shown.assumptions, done, frozenset(self.reader.signature.constants))
+        situation = situation_of(shown.assumptions, done, self._named_laws)
         outcome = situation.choose()
         if isinstance(outcome, Sum):
             return self._sum(goals, situation.atoms, outcome)

@@ -23,6 +23,7 @@ class Asker:
     def __init__(self, program: Sequence[str], seconds: float) -> None:
         self.program, self.seconds = list(program), seconds
         self._stand: List[Tuple[str, List[str]]] = []
+        self._spent = 0.0
         self._begin()
 
     def _begin(self) -> None:
@@ -31,6 +32,7 @@ class Asker:
 
     def _renew(self) -> None:
         """Has what stands in a fresh server."""
+        self._spent = self.processor_seconds()
         self.stop()
         self._begin()
         stood, self._stand = self._stand, []
@@ -45,6 +47,14 @@ class Asker:
     def stop(self) -> None:
         """Ends the server."""
         self._server.stop()
+
+    def processor_seconds(self) -> float:
+        """How much of the processor's time the program has had, where the system says it; with those that ended before."""
+        try:
+            with open("/proc/%d/schedstat" % self._server.process.pid, encoding="ascii") as file:
+                return self._spent + int(file.read().split()[0]) / 1e9
+        except (OSError, ValueError, IndexError):
+            return self._spent
 
     def ask(self, request: Dict[str, Any], until: Optional[float] = None) -> protocol.Reply:
         """The reply to a request."""

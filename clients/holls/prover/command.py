@@ -13,7 +13,7 @@ from holls import check, checking, graph, server
 from holls.checking import Unit
 from holls.files import File
 from holls.projects import Project, Projects
-from holls.prover import serving
+from holls.prover import serving, trying
 from holls.prover.asking import Silent
 from holls.prover.finder import Unprovable
 from holls.prover.warm import Answer, NoGoal, Request, Warm
@@ -35,6 +35,7 @@ def add_words(parser: argparse.ArgumentParser) -> None:
     parser.add_argument("rest", nargs="*", metavar="with NAME..", help="the theorems that a proof may take first")
     parser.add_argument("--seconds", type=float, default=SECONDS, help="how long the search may take (%g)" % SECONDS)
     parser.add_argument("--arith", action="store_true", help="by arithmetic alone: linear, and equations of polynomials")
+    parser.add_argument("--several", action="store_true", help="other proofs too, the shortest first")
     parser.add_argument("--simplify", action="store_true", help="steps that make the goal simpler, whether they close it or not")
     parser.add_argument("--server", metavar="PROGRAM", help="the program hol_serve")
     parser.add_argument("--json", action="store_true", help="one JSON object")
@@ -81,8 +82,9 @@ def _found(given: argparse.Namespace, warm: Warm) -> str:
         raise NoGoal("write FILE:LINE, and then perhaps `with` and names of theorems")
     request = _request(place.group(1), int(place.group(2)) - 1, given)
     answer = warm.search(request)
-    steps = [in_notation_at(request.file, answer.number, step) for step in answer.steps or ()]
-    text = _json(answer, steps) if given.json else _text(answer, steps)
+    every = sorted([answer.steps, *map(list, answer.others)], key=trying.length) if answer.steps else [[]]
+    written = [[in_notation_at(request.file, answer.number, step) for step in steps] for steps in every]
+    text = _json(answer._replace(steps=every[0] if answer.steps else None), written) if given.json else _text(answer, written)
     if answer.steps is None:
         raise _NoSteps(text)
     return text
@@ -98,7 +100,7 @@ def _asked(given: argparse.Namespace, program: Sequence[str]) -> Optional[Dict[s
     if not place or not os.path.exists(path):
         return None
     request = {"place": "%s:%s" % (os.path.abspath(place.group(1)), place.group(2)), "rest": given.rest, "seconds": given.seconds,
-               "arith": given.arith, "simplify": given.simplify, "json": given.json}
+               "arith": given.arith, "simplify": given.simplify, "several": given.several, "json": given.json}
     answer = serving.ask(path, request, given.seconds + _START_SECONDS)
     is_whole = answer is not None and isinstance(answer.get("out"), str) and isinstance(answer.get("error"), str) and answer.get("status") in (0, 1, 2)
     return answer if is_whole else None
@@ -114,7 +116,7 @@ def answering(warm: Warm) -> serving.Answering:
             return {"status": BROKEN, "out": "", "error": "holls: this is no request\n"}
         given = argparse.Namespace(
             place=request["place"], rest=rest, seconds=float(seconds), arith=bool(request.get("arith")),
-            simplify=bool(request.get("simplify")), json=bool(request.get("json")))
+            simplify=bool(request.get("simplify")), several=bool(request.get("several")), json=bool(request.get("json")))
         try:
             return {"status": 0, "out": _found(given, warm) + "\n", "error": ""}
         except _NoSteps as none:
@@ -142,28 +144,31 @@ def _serve(folder: str, program: Sequence[str]) -> int:
     return 0
 
 
-def _json(answer: Answer, steps: List[str]) -> str:
-    """An answer as one JSON object, with its steps in notation; `plain` are those as the program reads them, where they differ."""
+def _json(answer: Answer, every: List[List[str]]) -> str:
+    """An answer as one JSON object, with its steps in notation; `plain` are those as the program reads them, where they differ, `others` other proofs."""
     if answer.steps is None:
         return json.dumps({"steps": None, "why": "none found" + answer.why})
+    steps, others = every[0], every[1:]
     plain = {"plain": answer.steps} if answer.steps != steps else {}
-    return json.dumps(dict({"steps": steps, "imports": list(answer.imports)} if answer.imports else {"steps": steps}, **plain))
+    more = {"others": others} if others else {}
+    return json.dumps(dict({"steps": steps, "imports": list(answer.imports)} if answer.imports else {"steps": steps}, **plain, **more))
 
 
-def _text(answer: Answer, steps: List[str]) -> str:
-    """An answer as lines, with its steps in notation; imports that are missing stand first, in a comment that says where they belong."""
+def _text(answer: Answer, every: List[List[str]]) -> str:
+    """An answer as lines, with its steps in notation; imports that are missing stand first, in a comment that says where they belong. Other proofs stand
+    behind the first one, each behind a comment."""
     if answer.steps is None:
         return "none found" + answer.why
     missing = ["(* before the proof: %s *)" % " ".join("import %s;;" % name for name in answer.imports)] if answer.imports else []
-    return "\n".join(missing + [step + ";;" for step in steps])
+    return "\n(* or *)\n".join("\n".join((missing if not number else []) + [step + ";;" for step in steps]) for number, steps in enumerate(every))
 
 
 def _request(path: str, line: int, given: argparse.Namespace) -> Request:
     """What is asked of a file's line."""
-    unit = _unit(path)
-    number = last_command(unit.file, line)
-    return Request(unit.file, number, unit.imports, others(unit.file, unit.imports), given.rest[1:] or None, given.seconds, given.arith,
-                   given.simplify)
+    found = unit(path)
+    number = last_command(found.file, line)
+    return Request(found.file, number, found.imports, others(found.file, found.imports), given.rest[1:] or None, given.seconds, given.arith,
+                   given.simplify, first=(lambda answer: None) if given.several else None)
 
 
 def paths_of(project: Project) -> List[str]:
@@ -189,13 +194,13 @@ def in_notation_at(file: File, number: int, step: str) -> str:
     return in_notation(step, file.notation.table(number), file.notation.vocabulary_at(number)).text
 
 
-def _unit(path: str) -> Unit:
+def unit(path: str) -> Unit:
     """A file with those that it imports."""
     units = checking.units(check.ordered([path]))
-    unit = next((one for one in units if one.file.path == path), units[-1])
-    if not unit.file.is_sent:
+    found = next((one for one in units if one.file.path == path), units[-1])
+    if not found.file.is_sent:
         raise NoGoal("%s can be no theory" % path)
-    return unit
+    return found
 
 
 def last_command(file: File, line: int) -> int:

@@ -2,10 +2,10 @@
 
 from __future__ import annotations
 
-from typing import Any, Callable, Dict, Iterator, List, Optional, Sequence
+from typing import Any, Callable, Dict, Iterator, List, Optional, Sequence, Tuple
 
 from holls.protocol import Goals
-from holls.prover import arithmetic, clock, counterexamples, models, named, reading, retyping, scope, tables, typed
+from holls.prover import arithmetic, clock, counterexamples, joining, models, named, reading, retyping, scope, tables, trying, typed
 from holls.prover.asking import Asker
 from holls.prover.knowledge import Knowledge
 from holls.prover.place import Place
@@ -26,6 +26,8 @@ _USUAL_SECONDS = 5.0
 _FEW = 24
 _CHOSEN = (6, 14, 36)
 """So many theorems are chosen, one time after the other."""
+_MOST_OTHERS = 3
+"""So many proofs more are looked for beside the one that is found first."""
 
 
 Tell = Callable[[str], None]
@@ -57,6 +59,7 @@ class Finder:
         self.tell: Tell = lambda name: None
         self.counterexample: Optional[Dict[str, Any]] = None
         self.open: List[str] = []
+        self._left: Iterator[Way] = iter(())
         statement: Optional[Term] = None
         try:
             statement = reading.term(written, standing.signature, ty=typed.BOOL)
@@ -80,7 +83,7 @@ class Finder:
     def simplify(self) -> Optional[List[str]]:
         """Commands that make the goal simpler, or close it; None where nothing does."""
         return self._first(lambda place: iter((Way("simplifying", lambda: self.ways.simpler(
-            place, self.known.premises.chosen(place.terms, _CHOSEN[-1]))),)))
+            place, list(dict.fromkeys(self.known.declared(place.terms) + self.known.premises.chosen(place.terms, _CHOSEN[-1]))))),)))
 
     def _first(self, ways: Callable[[Place], Iterator[Way]]) -> Optional[List[str]]:
         """What the first way finds that finds anything, unless the goal is false."""
@@ -89,14 +92,37 @@ class Finder:
             self.open = retyping.left_open(place.terms)
             if self._is_false(place):
                 return None
-            for way in ways(place):
-                self.tell(way.name)
-                found = way.run()
-                if found or clock.now() >= self.until:
-                    return found
+            self._left = ways(place)
+            return self._next()
         except (Unreadable, RecursionError):
             self.is_too_deep = True
         return None
+
+    def _next(self) -> Optional[List[str]]:
+        """What the next way finds that finds anything in time."""
+        for way in self._left:
+            self.tell(way.name)
+            found = way.run()
+            if found or clock.now() >= self.until:
+                return found
+        return None
+
+    def others(self, found: List[str], seconds: float) -> List[List[str]]:
+        """Other proofs than the one that was found, by the ways that weren't tried yet, as far as they come in so many seconds, the shortest first; and it
+        as one step, where it has several."""
+        self.until = self.ways.until = clock.now() + seconds
+        every: Dict[Tuple[str, ...], None] = {tuple(found): None}
+        try:
+            while len(every) <= _MOST_OTHERS and clock.now() < self.until:
+                more = self._next()
+                if not more:
+                    break
+                every.setdefault(tuple(more))
+        except (Unreadable, RecursionError):
+            pass
+        made = [list(one) for one in every][1:]
+        one = joining.as_one(self.asker, found, self.goals)
+        return sorted(made + ([[one]] if one else []), key=trying.length)
 
     def why_none(self, seconds: float) -> str:
         """Why none was found in so many seconds: words that go on after "none found"."""
@@ -120,8 +146,10 @@ class Finder:
         yield Way("a theorem that says it", lambda: ways.exactly(place))
         yield Way(_ARITHMETIC, lambda: ways.by_arithmetic(place))
         yield Way("a short step", lambda: ways.at_once(place))
+        yield Way("the order of operands", lambda: ways.reordered(place))
         if names:
             yield Way("rewriting with what is named", lambda: ways.quick(place, names))
+            yield Way("rewriting by shape", lambda: ways.shaped(place, names, soon(0.5)))
             yield Way("logic with what is named", lambda: ways.search(place, names, soon(0.5)))
             yield Way("elements and definitions", lambda: ways.prepared(place, names, names, soon(0.6)))
             yield Way("conditional rewriting", lambda: ways.simplified(place, names, soon(0.6)))
@@ -150,7 +178,7 @@ class Finder:
         """The ways by theorems that are chosen, and by induction."""
         ways, soon = self.ways, self._soon
         defining = [name for name in self.scope.defining(place.terms) if self.scope.fact(name).is_closed]
-        chosen = self.known.premises.chosen(place.terms, _CHOSEN[-1])
+        chosen = list(dict.fromkeys(self.known.declared(place.terms) + self.known.premises.chosen(place.terms, _CHOSEN[-1])))
         if not chosen and not defining:
             return
         every = list(dict.fromkeys(names + chosen))
@@ -162,6 +190,7 @@ class Finder:
         if self.known.is_inductive(place.terms):
             yield Way("induction", lambda: ways.by_induction(place, every[:_CHOSEN[1]], soon(0.8)))
         yield Way("conditional rewriting", lambda: ways.simplified(place, every, soon(0.4)))
+        yield Way("rewriting by shape", lambda: ways.shaped(place, every[:_FEW], soon(0.2)))
         for number in _CHOSEN[1:]:
             yield Way("logic with %d theorems" % number, lambda number=number: ways.search(place, every[:number], soon(0.5)))
         yield Way("elements and definitions", lambda: ways.prepared(place, [], every[:_CHOSEN[1]], soon(0.5)))

@@ -128,7 +128,7 @@ class FirstOrder:
         return next((found for found in map(place.checked, map(scripts.commands, self._used(done) + self._variants(done))) if found), None)
 
     def _used(self, step: Step) -> List[Step]:
-        """Shorter steps that do the same by named functions on goals."""
+        """Shorter steps that do the same by named tactics."""
         if not self.place.functions.names:
             return []
         until = clock.now() + _USING_SECONDS

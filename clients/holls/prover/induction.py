@@ -123,8 +123,10 @@ class Beginnings:
         made: List[Beginning] = []
         goal = self._shown.conclusion
         variables = sorted(typed.variables(goal), key=lambda one: (-self._weight(goal, one), -_uses(goal, one), one[1]))
-        wholes = {one.predicate[2][1][0] if isinstance(one.predicate[2][1], tuple) else "": one for one in self._found if one.guard is None}
-        wholes.update({one.predicate[2][1][0]: one for one in self._found if one.is_whole and isinstance(one.predicate[2][1], tuple)})
+        # (Of several at one type the one stated first is the type's own.)
+        first = self._found[::-1]
+        wholes = {one.predicate[2][1][0] if isinstance(one.predicate[2][1], tuple) else "": one for one in first if one.guard is None}
+        wholes.update({one.predicate[2][1][0]: one for one in first if one.is_whole and isinstance(one.predicate[2][1], tuple)})
         try:
             made += self._guarded()
             for variable in variables:

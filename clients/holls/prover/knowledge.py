@@ -2,6 +2,7 @@
 
 from __future__ import annotations
 
+from functools import cached_property
 from typing import Dict, FrozenSet, List, Optional, Sequence, Tuple
 
 from holls.prover import patterns, reading, scripts, typed
@@ -46,11 +47,32 @@ class Knowledge:
         constructors = frozenset().union(*(one.constructors for one in self.inductions)) - _TRUTH if self.inductions else frozenset()
         self.clauses = self._clauses(constructors)
 
+    @cached_property
+    def orders(self) -> Dict[str, List[Tuple[str, Pattern]]]:
+        """The equations without premises both of whose sides begin with one constant: the theorem and the conclusion, by that constant."""
+        found: Dict[str, List[Tuple[str, Pattern]]] = {}
+        for fact in self.facts:
+            for pattern in fact.patterns:
+                sides = typed.binary(pattern.conclusion)
+                head = patterns.head(sides[1]) if sides and sides[0] in ("=", "<=>") and not pattern.premises else None
+                if head is not None and head == patterns.head(sides[2]):
+                    found.setdefault(head, []).append((fact.name, pattern))
+        return found
+
     def is_decreasing(self, name: str) -> bool:
         """Whether rewriting by a theorem, with others of which this holds, ends: its conclusions are equations with a smaller right side."""
         if name not in self._decreasing:
             self._decreasing[name] = all(self._decreases(pattern) for pattern in self.scope.fact(name).patterns)
         return self._decreasing[name]
+
+    def is_plain(self, name: str, is_named: bool) -> bool:
+        """Whether a theorem is a definition, or says equations without premises by which rewriting ends; one that is named may unfold a constant."""
+        every = [(pattern, typed.binary(pattern.conclusion)) for pattern in self.scope.fact(name).patterns]
+        if any(pattern.premises or not sides or sides[0] not in ("=", "<=>") for pattern, sides in every):
+            return False
+        unfolds = is_named and all(patterns.head(sides[1]) and patterns.head(sides[1]) not in {part[1] for part in typed.constants(sides[2])}
+                                   for _, sides in every)
+        return unfolds or name in self.scope.definitions or self.is_decreasing(name)
 
     def _decreases(self, pattern: Pattern) -> bool:
         sides = typed.binary(pattern.conclusion)
@@ -126,8 +148,15 @@ class Knowledge:
         return list(found)
 
     def simple(self, terms: Sequence[Term]) -> List[str]:
-        """The theorems that bring a goal to a simpler one: those of `computing`, and of conditionals."""
-        return self.computing(terms) + [name for name in _CONDITIONALS if name in self.scope.theorems]
+        """The theorems that bring a goal to a simpler one: those of `computing`, of conditionals, and those that files declare by `simp`."""
+        declared = [name for name in self.declared(terms) if self.is_decreasing(name)]
+        return list(dict.fromkeys(self.computing(terms) + [name for name in _CONDITIONALS if name in self.scope.theorems] + declared))
+
+    def declared(self, terms: Sequence[Term]) -> List[str]:
+        """The theorems that files declare by `simp`, all of whose constants a goal has, but for one."""
+        own = frozenset().union(*map(self.premises.symbols, terms)) if terms else frozenset()
+        every = self.scope.simplifying()
+        return [name for name in every if len(self.scope.fact(name).constants - self.premises.logical - own) <= 1] if every else []
 
     def recursion(self, term: Term, variable: Term) -> int:
         """How often a variable stands in a term where a function is computed by what constructors build."""

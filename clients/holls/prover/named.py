@@ -1,4 +1,4 @@
-"""Named functions on goals (`deftac`) in a proof that was found: a use takes the place of steps where it leaves the goals that these come to."""
+"""Named tactics (`deftac`) in a proof that was found: a use takes the place of steps where it leaves the goals that these come to."""
 
 from __future__ import annotations
 

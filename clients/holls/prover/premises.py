@@ -21,7 +21,7 @@ class Premises:
     """Theorems with their constants. `logical` are constants that say nothing of a theorem."""
 
     def __init__(self, facts: Sequence[Fact], logical: FrozenSet[str]) -> None:
-        self._logical = logical
+        self.logical = logical
         self._symbols: Dict[str, FrozenSet[str]] = {}
         counts: Dict[str, int] = {}
         for fact in facts:
@@ -34,7 +34,7 @@ class Premises:
 
     def symbols(self, term: Term) -> FrozenSet[str]:
         """A term's constants, but for the logical ones."""
-        return frozenset(part[1] for part in typed.subterms(term) if part[0] == "c" and part[1] not in self._logical)
+        return frozenset(part[1] for part in typed.subterms(term) if part[0] == "c" and part[1] not in self.logical)
 
     def chosen(self, terms: Sequence[Term], most: int) -> List[str]:
         """The theorems that are chosen for a sequent, the likeliest first."""

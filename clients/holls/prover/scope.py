@@ -1,4 +1,4 @@
-"""What stands at a command, with types: constants, type constructors and theorems, and named functions on goals, by the texts that make them.
+"""What stands at a command, with types: constants, type constructors and theorems, and named tactics, by the texts that make them.
 
 A statement is read from the text of its `g` or `new_` command and not from what the program shows, which has no types. What can't be read, or
 was refused, is left out.
@@ -27,13 +27,14 @@ _LOGICAL = frozenset(name for name in reading.PRELUDE if name not in ("ONE_ONE",
 
 
 class Scope:
-    """The constants, the theorems and the named functions on goals that stand, the nearest last."""
+    """The constants, the theorems and the named tactics that stand, the nearest last."""
 
     def __init__(self) -> None:
         self.signature = Signature()
         self.functions: Dict[str, FrozenSet[str]] = {}
-        """Of each named function on goals the variables that it names, free in its quotations."""
+        """Of each named tactic the variables that it names, free in its quotations."""
         self.theorems: Dict[str, Term] = {}
+        self.simple: Dict[str, None] = {}
         self.definitions: Dict[str, str] = {"ONE_ONE": "ONE_ONE", "ONTO": "ONTO"}
         self._facts: Dict[str, Fact] = {}
         for name, text in manual.PRELUDE.items():
@@ -42,6 +43,7 @@ class Scope:
     def add_file(self, file: File, before: Optional[int] = None) -> None:
         """Takes what a file makes, or what stands before one of its commands; of the theory of arithmetic no functions, which have a use of
         their own."""
+        self.simple.update(file.notation.simple)
         for first, last in names.blocks(file):
             if before is not None and last >= before:
                 break
@@ -55,6 +57,10 @@ class Scope:
                 continue
             if file.name in PACKAGES or command.name.startswith(names.HIDDEN):
                 self._leave_out(command.text.split("`")[0].split()[1:])
+
+    def simplifying(self) -> List[str]:
+        """The theorems that stand and that `simp` names."""
+        return [name for name in self.simple if name in self.theorems]
 
     def _leave_out(self, given: Sequence[str]) -> None:
         """Leaves out theorems and functions that packages have for themselves; their constants stand."""
@@ -125,6 +131,7 @@ class Scope:
         other = Scope()
         other.signature = Signature(dict(self.signature.constants), dict(self.signature.constructors))
         other.functions, other.theorems, other.definitions = dict(self.functions), dict(self.theorems), dict(self.definitions)
+        other.simple = dict(self.simple)
         other._facts = self._facts
         return other
 
@@ -132,6 +139,7 @@ class Scope:
         """The same without some theorems."""
         left = Scope()
         left.signature, left.functions, left.definitions, left._facts = self.signature, self.functions, self.definitions, self._facts
+        left.simple = self.simple
         left.theorems = {name: said for name, said in self.theorems.items() if name not in names}
         return left
 

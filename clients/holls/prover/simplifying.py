@@ -4,7 +4,7 @@ from __future__ import annotations
 
 from typing import Dict, Iterator, List, NamedTuple, Optional, Sequence, Tuple
 
-from holls.prover import patterns, typed
+from holls.prover import patterns, shaping, typed
 from holls.prover.knowledge import Knowledge
 from holls.prover.patterns import PREMISE, Binding, Pattern
 from holls.prover.shown import Shown
@@ -12,6 +12,7 @@ from holls.prover.typed import Term
 
 _MOST_RULES = 200
 _MOST_INSTANCES = 8
+_MOST_PARTS = 400
 
 
 class Rule(NamedTuple):
@@ -20,14 +21,18 @@ class Rule(NamedTuple):
     name: str
     pattern: Pattern
     left: Term
+    right: Optional[Term]
 
 
 class Instance(NamedTuple):
-    """A rule at some terms: its theorem's expression, the part that it rewrites, and the conditions that aren't assumed."""
+    """A rule at some terms: its theorem's expression, the part that it rewrites, and the conditions that aren't assumed. Of a part under binders also the
+    variables that are bound outside of it, and the equation for all their values."""
 
     theorem: str
     part: Term
     conditions: Tuple[Term, ...]
+    bound: Tuple[Term, ...] = ()
+    said: Optional[Term] = None
 
 
 def rules(names: Sequence[str], knowledge: Knowledge) -> List[Rule]:
@@ -37,7 +42,8 @@ def rules(names: Sequence[str], knowledge: Knowledge) -> List[Rule]:
         for pattern in knowledge.scope.fact(name).patterns:
             left = _left(pattern)
             if left is not None:
-                found.append(Rule(name, pattern, left))
+                sides = typed.binary(pattern.conclusion)
+                found.append(Rule(name, pattern, left, sides[2] if sides and sides[1] is left else None))
     return found[:_MOST_RULES]
 
 
@@ -68,20 +74,21 @@ class Instances:
             self._heads.setdefault(patterns.head(rule.left), []).append(rule)
 
     def at(self, shown: Shown) -> List[Instance]:
-        """Those with the fewest conditions that aren't assumed first, and of these at the largest parts."""
+        """Those at parts under no binder first; then with the fewest conditions that aren't assumed, and of these at the largest parts."""
         found = {one.theorem: one for one in self._all(shown)}
-        return sorted(found.values(), key=lambda one: (len(one.conditions), -typed.size(one.part)))[:_MOST_INSTANCES]
+        return sorted(found.values(), key=lambda one: (len(one.bound), len(one.conditions), -typed.size(one.part)))[:_MOST_INSTANCES]
 
     def _all(self, shown: Shown) -> Iterator[Instance]:
-        for part in dict.fromkeys(typed.subterms(shown.conclusion)):
-            if part[0] != "a" or typed.has_loose(part):
-                continue
+        names = {one[1] for one in typed.variables(shown.conclusion)} | set(shown.free) | self._knowledge.constants
+        every = dict(part for part, _ in zip(shaping.parts(shown.conclusion, names), range(_MOST_PARTS)))
+        for part, bound in every.items():
+            outside = [one for one in bound if one in typed.variables(part)]
             for rule in self._heads.get(patterns.head(part), []):
                 binding = Binding()
-                if binding.match(rule.left, part):
-                    yield from self._conditioned(rule, binding, part, shown)
+                if (not outside or rule.right is not None) and binding.match(rule.left, part):
+                    yield from self._conditioned(rule, binding, part, outside, shown)
 
-    def _conditioned(self, rule: Rule, binding: Binding, part: Term, shown: Shown) -> Iterator[Instance]:
+    def _conditioned(self, rule: Rule, binding: Binding, part: Term, bound: Sequence[Term], shown: Shown) -> Iterator[Instance]:
         """A rule at a part, with what isn't bound by it found among the assumptions."""
         premises = rule.pattern.premises
         loose = [premise for premise in premises if binding.instance(premise) is None]
@@ -91,5 +98,7 @@ class Instances:
         conditions = [whole.instance(premise) for premise in premises]
         assumed = list(shown.assumptions) + [one for one in conditions if one is not None]
         theorem = self._knowledge.exact.expression(rule.name, rule.pattern, whole, assumed)
-        if theorem is not None:
-            yield Instance(theorem, part, tuple(one for one in conditions if one not in shown.assumptions))
+        if theorem is None:
+            return
+        outside, said = shaping.said_of(part, typed.reduced(whole.instance(rule.right)), bound) if bound else ((), None)
+        yield Instance(theorem, part, tuple(one for one in conditions if one not in shown.assumptions), outside, said)

@@ -24,13 +24,13 @@ STRIPS = "REPEAT STRIP_TAC THEN "
 
 def closers(theorems: Sequence[str], is_growing: bool) -> List[str]:
     """Short steps that may close a goal, by rewriting with theorems; by assumptions only where these don't go on for ever."""
+    named = "[%s]" % "; ".join(theorems)
+    reduced = "REWRITE_TAC %s THEN BETA_TAC THEN REWRITE_TAC [%s]" % (named, "; ".join(dict.fromkeys(["ETA_AX", *theorems])))
     if is_growing:
-        return [STRIPS + "FIRST_ASSUM ACCEPT_TAC"]
+        return (["REWRITE_TAC " + named, reduced] if theorems else []) + [STRIPS + "FIRST_ASSUM ACCEPT_TAC"]
     if not theorems:
         return [SHORT, STRIPS + SHORT, STRIPS + "FIRST_ASSUM ACCEPT_TAC"]
-    named = "[%s]" % "; ".join(theorems)
     alone = ["MATCH_MP_TAC %s THEN ASM_REWRITE_TAC []" % theorems[0]] if len(theorems) == 1 else []
-    reduced = "REWRITE_TAC %s THEN BETA_TAC THEN REWRITE_TAC [ETA_AX]" % named
     return ["REWRITE_TAC " + named, STRIPS + "ASM_REWRITE_TAC " + named, reduced, STRIPS + reduced] + alone
 
 
@@ -161,7 +161,7 @@ def shorter(asker: Asker, texts: Sequence[str], goals: Goals, until: float) -> L
         goals_after(asker, text[len("e "):])
     for at in reversed(range(len(made))):
         asker.back(mark + at)
-        for number in range(len(_LIST.findall(made[at]))):
+        for number in reversed(range(len(_LIST.findall(made[at])))):  # One that has become a single name is no list of several any more.
             made[at] = _with_shorter_list(asker, made, at, number, goals, until)
     return made
 
@@ -256,16 +256,3 @@ def pieces(text: str) -> List[str]:
             made.append(text[begun:found.start()].strip())
             begun = found.end()
     return made + [text[begun:].strip()]
-
-
-def cuts(text: str) -> List[int]:
-    """Where THEN and THENL begin in a text, outside of brackets; none where ORELSE stands there too."""
-    made, depth = [], 0
-    for found in _PIECE.finditer(text):
-        token = found.group()
-        depth += {"(": 1, "[": 1, ")": -1, "]": -1}.get(token, 0)
-        if depth == 0 and token == "ORELSE":
-            return []
-        if depth == 0 and token in ("THEN", "THENL"):
-            made.append(found.start())
-    return made

@@ -3,7 +3,7 @@
 from __future__ import annotations
 
 import threading
-from typing import Dict, List, NamedTuple, Optional, Sequence, Tuple
+from typing import Callable, Dict, FrozenSet, List, NamedTuple, Optional, Sequence, Tuple
 
 from holls import graph, protocol
 from holls import names as names_of
@@ -12,6 +12,7 @@ from holls.protocol import Goals, Refusal
 from holls.prover import arithmetic, clock, reading, trying
 from holls.prover.asking import Asker, Silent
 from holls.prover.finder import Finder, Tell
+from holls.prover.knowledge import Knowledge
 from holls.prover.premises import Premises
 from holls.prover.scope import ARITHMETIC, Scope
 from holls.prover.shown import Reader
@@ -27,6 +28,10 @@ _SHARE, _SHARE_WITHOUT_ARITHMETIC = 0.6, 0.25
 """The part of the time for the theories that are imported; and where the goal is about numbers, and the theory of arithmetic isn't."""
 _LEAST_SECONDS = 1.0
 _MOST_SCOPES = 200
+_STEPS = ("e", "b", "r")
+"""The commands that make nothing that stands behind a proof."""
+_MORE = 0.3
+"""The part of a search's time in which other proofs are looked for beside the first one."""
 
 
 class NoGoal(Exception):
@@ -34,19 +39,21 @@ class NoGoal(Exception):
 
 
 class Answer(NamedTuple):
-    """The steps that close a goal, None where none were found; the command behind which they belong; words on why there are none; and the
-    theories that have to be imported before the proof."""
+    """The steps that close a goal, None where none were found; the command behind which they belong; words on why there are none; the theories
+    that have to be imported before the proof; and other steps that close it, the shortest first."""
 
     steps: Optional[List[str]]
     number: int
     why: str = ""
     imports: Tuple[str, ...] = ()
+    others: Tuple[Tuple[str, ...], ...] = ()
 
 
 class Request(NamedTuple):
     """A goal that is open behind a command of a file: the first one. `imports` are the files that the file imports, in order, `others` files that it
     might import, each behind its imports. Of the theorems `names` alone are to be taken first, if any are given; by arithmetic alone is tried
-    where that is said, and with `is_simplifying` what makes the goal simpler is answered, whether it closes it or not."""
+    where that is said, and with `is_simplifying` what makes the goal simpler is answered, whether it closes it or not. With `first` other proofs are
+    looked for too, and it is told the first one at once."""
 
     file: File
     number: int
@@ -57,6 +64,7 @@ class Request(NamedTuple):
     is_arithmetic: bool = False
     is_simplifying: bool = False
     tell: Tell = lambda name: None
+    first: Optional[Callable[[Answer], None]] = None
 
 
 class Warm:
@@ -68,6 +76,7 @@ class Warm:
         self._asker: Optional[Asker] = None
         self._standing: List[Tuple[str, List[str]]] = []
         self._scopes: Dict[Tuple[Tuple[str, int], ...], Scope] = {}
+        self._known: Tuple[object, Optional[Knowledge]] = None, None
 
     def stop(self) -> None:
         """Ends the server."""
@@ -80,14 +89,18 @@ class Warm:
         self._asker, self._standing = None, []
 
     def prepare(self, imports: Sequence[File]) -> None:
-        """Has theories stand, so that a search begins at once. Silent as for `search`."""
-        with self._lock:
-            try:
-                self._ready(imports)
-                self._imported(imports)
-            except Silent:
-                self._forget()
-                raise
+        """Has theories stand, so that a search begins at once, unless it has something to do already. Silent as for `search`."""
+        if not self._lock.acquire(blocking=False):
+            return
+        try:
+            self._ready(imports)
+            if self._known[1] is None:
+                self._known = None, Knowledge(self._imported(imports))
+        except Silent:
+            self._forget()
+            raise
+        finally:
+            self._lock.release()
 
     def search(self, request: Request) -> Answer:
         """The answer to a request. Cancelled where `tell` raises it; NoGoal where no goal is open there; Unprovable where a theorem that is named
@@ -108,23 +121,44 @@ class Warm:
         try:
             goals, accepted = _open_goals(asker, request.file, request.number)
             written = names_of.quoted(request.file.commands[request.file.proof_begin(accepted)])
-            standing = self._imported(request.imports).copy()
-            standing.add_file(request.file, request.number + 1)
-            standing.keep(frozenset(asker.theorems()))
+            known = self._knowledge(request, frozenset(asker.theorems()))
+            standing = known.scope
             place = _Place(asker, standing, goals, written, texts, request.file.slot(request.file.proof_begin(accepted)) or 0)
             until = clock.now() + request.seconds
-            finder = Finder(asker, standing, goals, written, clock.now() + self._share(request, place) * request.seconds)
+            finder = Finder(asker, standing, goals, written, clock.now() + self._share(request, place) * request.seconds, known)
             finder.tell = request.tell
             is_without = request.is_arithmetic and arithmetic.NEEDED not in standing.theorems and _has_arithmetic(request)
             found = finder.simplify() if request.is_simplifying else None if is_without else \
                 finder.find_numbers() if request.is_arithmetic else finder.find(request.names)
+            others = self._others(request, finder, found, accepted)
         finally:
             asker.forget()
         more = [] if found or request.is_simplifying or request.names or finder.counterexample is not None else self._further(request, place)
         imported: Tuple[str, ...] = ()
         if more:
             found, imported = self._with_more(place, more, request, until)
-        return Answer(found, accepted, "" if found else finder.why_none(request.seconds), imported)
+        return Answer(found, accepted, "" if found else finder.why_none(request.seconds), imported, others)
+
+    @staticmethod
+    def _others(request: Request, finder: Finder, found: Optional[List[str]], accepted: int) -> Tuple[Tuple[str, ...], ...]:
+        """Other proofs than the first one, which is told."""
+        if not found or request.first is None or request.is_simplifying:
+            return ()
+        request.first(Answer(found, accepted))
+        return tuple(map(tuple, finder.others(found, _MORE * request.seconds)))
+
+    def _knowledge(self, request: Request, theorems: FrozenSet[str]) -> Knowledge:
+        """What is known of the theorems that stand at a request's place. It is kept for those behind which nothing more is made."""
+        slots = (request.file.slot(at) for at in range(request.number + 1))
+        last = max((slot for slot in slots if slot is not None), default=-1)
+        made = [entry.sent for entry in request.file.theory.entries[:last + 1] if entry.sent.split(" ", 1)[0] not in _STEPS]
+        key = _key(request.imports), hash(tuple(made)), tuple(request.file.notation.simple), theorems
+        if self._known[1] is None or self._known[0] != key:
+            standing = self._imported(request.imports).copy()
+            standing.add_file(request.file, request.number + 1)
+            standing.keep(theorems)
+            self._known = key, Knowledge(standing)
+        return self._known[1]
 
     @staticmethod
     def _share(request: Request, place: "_Place") -> float:
@@ -154,7 +188,7 @@ class Warm:
 
     def _imported(self, files: Sequence[File]) -> Scope:
         """What some files make. Each is read once, as long as it and those before it are the same."""
-        key = tuple((file.name, hash(tuple(entry.sent for entry in file.theory.entries))) for file in files)
+        key = _key(files)
         if key not in self._scopes:
             made = self._imported(files[:-1]).copy() if files else Scope()
             if files:
@@ -234,6 +268,11 @@ class _Place(NamedTuple):
     def with_imports(self, names: Sequence[str]) -> List[str]:
         """The commands with more imports before the proof."""
         return self.texts[:self.begin] + ["import " + name for name in names] + self.texts[self.begin:]
+
+
+def _key(files: Sequence[File]) -> Tuple[Tuple[str, int], ...]:
+    """What decides what some files make."""
+    return tuple((file.name, hash(tuple(entry.sent for entry in file.theory.entries))) for file in files)
 
 
 def _has_arithmetic(request: Request) -> bool:

@@ -5,11 +5,12 @@ from __future__ import annotations
 from typing import Callable, List, NamedTuple, Optional, Sequence
 
 from holls.protocol import Goals
-from holls.prover import arithmetic, clock, named, preparing, retyping, scripts, simplifying, tables, trying, typed
+from holls.prover import arithmetic, clock, named, preparing, retyping, scripts, shaping, simplifying, tables, trying, typed
 from holls.prover.arithmetic import Arithmetic
 from holls.prover.firstorder import FirstOrder
 from holls.prover.induction import Beginnings
 from holls.prover.place import Place, has
+from holls.prover.reordering import Reordering
 from holls.prover.scripts import Scribe, Step
 from holls.prover.simplifying import Instance, Instances
 from holls.prover.typed import Term
@@ -22,6 +23,8 @@ _SHORTER_SECONDS = 0.2
 _CLOSING = 0.1
 """The part of the time in which named functions are tried before a search."""
 _EXACT_STEPS = 8
+_NAMED = 8
+"""Of no more theorems than these each is likely to be meant."""
 _FEW_NAMES = 14
 """So many theorems rewrite at once."""
 _SEARCH_SECONDS = 0.25
@@ -82,12 +85,25 @@ class Ways:
         """Steps by linear arithmetic and by equations of polynomials, where the theory stands on which these rest."""
         if arithmetic.NEEDED not in place.known.scope.theorems or not arithmetic.concerns(place.terms):
             return None
-        step = Arithmetic(place.asker, place.reader, place.known.quoter, self.part(0.5)).prove(place.goals)
+        step = Arithmetic(place.asker, place.reader, place.known.quoter, self.part(0.5), place.known.scope.theorems).prove(place.goals)
         texts = scripts.commands(step) if step else []
         return texts if texts and trying.check(place.asker, texts, place.goals) else None
 
+    def reordered(self, place: Place) -> Commands:
+        """Steps by laws of commutation and association, at once or once the goal is stripped."""
+        for strips in ("REPEAT GEN_TAC", "REPEAT STRIP_TAC"):
+            found = self.behind(place, strips, self._reordered) or (self._reordered(place) if _is_stripped(place) else None)
+            if found:
+                return place.checked(found)
+        return None
+
+    @staticmethod
+    def _reordered(place: Place) -> Commands:
+        texts = Reordering(place.known, place.shown).steps()
+        return texts if texts and trying.check(place.asker, texts, place.goals) else None
+
     def at_once(self, place: Place) -> Commands:
-        """A step by what stands in the goal alone, or by a named function on goals where that is shorter."""
+        """A step by what stands in the goal alone, or by a named tactic where that is shorter."""
         found = self.quick(place, [])
         below = sum(map(len, found)) - len("e ") if found else None
         until = self.part(_CLOSING)
@@ -196,7 +212,15 @@ class Ways:
     # By conditional rewriting
 
     def simplified(self, place: Place, names: Sequence[str], until: float, depth: int = 1) -> Commands:
-        """Steps that strip a goal, rewrite by theorems whose conditions can be shown, and close what is left."""
+        """Steps that strip a goal, rewrite by theorems whose conditions can be shown, and close what is left; at once, or behind rewriting by those
+        without conditions."""
+        found = self._simplified(place, names, until, depth)
+        plain = [name for name in place.fine(names) if place.known.is_plain(name, len(names) <= _NAMED)][:_FEW_NAMES]
+        if found or not plain or depth == 0 or clock.now() > until:
+            return found
+        return self.behind(place, "REWRITE_TAC [%s]" % "; ".join(plain), lambda inner: self._simplified(inner, names, until, depth))
+
+    def _simplified(self, place: Place, names: Sequence[str], until: float, depth: int) -> Commands:
         instances = Instances(simplifying.rules(names, place.known), place.known)
         return (self._rewritten(place, instances, names, until, depth, _ROUNDS)
                 or self.behind(place, "REPEAT STRIP_TAC", lambda inner: self._stripped(inner, instances, names, until, depth)))
@@ -214,10 +238,29 @@ class Ways:
                 return self._put(inner, instance, lambda other: self.close(other, names, until, 0) or (
                     self._rewritten(other, instances, names, until, depth, rounds - 1) if rounds else None))
 
-            found = self._with_conditions(place, instance.conditions, then, names, until, depth)
+            found = self._under_binders(place, instance, instances, names, until, depth, rounds) if instance.bound else self._with_conditions(
+                place, instance.conditions, then, names, until, depth)
             if found:
                 return found
         return None
+
+    def _under_binders(self, place: Place, instance: Instance, instances: Instances, names: Sequence[str], until: float, depth: int, rounds: int) -> Commands:
+        """Shows an instance for all values of what is bound outside of its part, and puts it into the goal."""
+        try:
+            said, taken = place.known.quoter.quote(instance.said), shaping.taken(instance.bound, place.known)
+        except Unwritable:
+            return None
+
+        def shows(inner: Place) -> Commands:
+            return self.behind(inner, taken[:-len(" THEN ")], lambda other: self._with_conditions(
+                other, instance.conditions, lambda last: self._put(last, instance, lambda _: None), names, until, depth))
+
+        def puts(inner: Place) -> Commands:
+            return self.behind(inner, "ONCE_REWRITE_TAC [ASSUME %s]" % said, lambda other: self.close(other, names, until, 0) or (
+                self._rewritten(other, instances, names, until, depth, rounds - 1) if rounds else None))
+
+        turn = iter((shows, puts))
+        return self.behind(place, "SUBGOAL_THEN %s ASSUME_TAC" % said, lambda inner: next(turn)(inner))
 
     def _with_conditions(self, place: Place, conditions: Sequence[Term], then: Callable[[Place], Commands], names: Sequence[str], until: float,
                          depth: int) -> Commands:
@@ -279,7 +322,7 @@ class Ways:
 
     def _conditional(self, place: Place, instances: Instances, names: Sequence[str]) -> Commands:
         """Steps that put one instance of a rule into a goal, with those that show its conditions."""
-        for instance in instances.at(place.shown):
+        for instance in (one for one in instances.at(place.shown) if not one.bound):
             mark, texts, now = place.asker.count, [], place
             for condition in instance.conditions:
                 text = "SUBGOAL_THEN %s ASSUME_TAC" % place.known.quoter.quote(condition)
@@ -298,6 +341,32 @@ class Ways:
                     place.asker.back(mark)
                     return texts + ["e " + step]
             place.asker.back(mark)
+        return None
+
+    # By the shape of equations
+
+    def shaped(self, place: Place, names: Sequence[str], until: float) -> Commands:
+        """Steps that rewrite by equations with variables for functions of what is bound, and close what is left; at once, or behind rewriting by the
+        others."""
+        every = shaping.shapes(names, place.known)
+        if not every:
+            return None
+        plain = [name for name in place.fine(names) if place.known.is_plain(name, len(names) <= _NAMED)][:_FEW_NAMES]
+        text = "REPEAT GEN_TAC" if not _is_stripped(place) else ""
+        found = self._shaped(place, every, plain, until, _ROUNDS)
+        for begun in [text] * bool(text) + ["REWRITE_TAC [%s] THEN BETA_TAC" % "; ".join(plain)] * bool(plain):
+            if not found and clock.now() < until:
+                found = self.behind(place, begun, lambda inner: self._shaped(inner, every, plain, until, _ROUNDS))
+        return place.checked(found)
+
+    def _shaped(self, place: Place, every: Sequence[shaping.Shape], plain: Sequence[str], until: float, rounds: int) -> Commands:
+        """Puts one equation after the other into the goal."""
+        for instance in shaping.instances(place.shown, every, place.known) if rounds else ():
+            text = shaping.step(instance, place.known)
+            found = text and clock.now() < until and self.behind(place, text, lambda inner: self.at_once(inner) or self.quick(
+                inner, list(dict.fromkeys([*plain, *inner.known.simple(inner.terms)]))) or self._shaped(inner, every, plain, until, rounds - 1))
+            if found:
+                return found
         return None
 
     # By induction

@@ -3,22 +3,26 @@
 from __future__ import annotations
 
 import argparse
+import asyncio
 import base64
 import functools
 import html
+import io
 import os
 import secrets
 import socket
 import zlib
 from pathlib import Path
-from typing import Optional
+from typing import List, Optional
 from urllib.parse import urlsplit
 
 from holls import carried, server
 from holls.course import layout
 from holls.course.layout import BadCourse, Course
+from holls.files import File
 from holls.lsp import bridge
 from holls.say import complain
+from holls.serving.keeping import Keeping
 from holls.serving.progress import Exercises, Watched
 from holls.serving.watching import Class
 
@@ -32,7 +36,10 @@ BACKLOG = 512
 LINK_BYTES = 400_000
 """The page takes no more from a link."""
 
-_NUMBERS = ("sessions", "each", "seconds", "memory", "processor", "idle", "rate")
+LESSON = "g N `!x:num. x = x /\\ T`;;\ne GEN_TAC;;\ne REWRITE_TAC [];;\nqed;;\n"
+"""A text as pages have them, for a rehearsal."""
+
+_NUMBERS = ("sessions", "each", "seconds", "memory", "processor", "idle", "rate", "doze", "files", "share")
 
 
 def add_words(words: argparse.ArgumentParser) -> None:
@@ -51,7 +58,16 @@ def add_words(words: argparse.ArgumentParser) -> None:
     words.add_argument("--memory", type=int, default=1000, metavar="MEGABYTES", help="how much memory a page's programs may have (1000)")
     words.add_argument("--processor", type=int, default=1800, metavar="SECONDS", help="how long a page's programs may compute in all (1800)")
     words.add_argument("--idle", type=int, default=60, metavar="MINUTES", help="a page in which nothing is done for so long is let go (60)")
+    words.add_argument("--doze", type=int, default=300, metavar="SECONDS",
+                       help="where nothing is done for so long, the program is ended; the next key starts it again (300)")
+    words.add_argument("--share", type=int, default=10, metavar="HUNDREDTHS",
+                       help="so much of a processor a page may have in the long run, before it comes after the others (10)")
+    words.add_argument("--files", type=int, default=100, help="so many files may be open in a page (100)")
     words.add_argument("--teacher-key", metavar="KEY", help="with a course: the word in the address of the teacher's page (one that is made anew each time)")
+    words.add_argument("--keep", metavar="FOLDER", help="with a course: keep what students write there, as FOLDER/STUDENT/FILE.hol, which holls grade reads "
+                       "(nothing of it is kept)")
+    words.add_argument("--ahead", type=int, default=4, help="with a course: so many programs wait that have run what its exercises import (4)")
+    words.add_argument("--quiet", action="store_true", help="write no line on standard error for each page that begins or ends")
     words.add_argument("--rate", type=int, default=200, help="so many requests a second from one address in the long run (200)")
 
 
@@ -63,8 +79,10 @@ def main(given: argparse.Namespace) -> int:
     if not hasattr(os, "fork"):
         return _complain("holls serve needs a system that can fork, as Linux does")
     wrong = next((name for name in _NUMBERS if getattr(given, name) < 1), None)
-    if wrong or not 0 <= given.port < 1 << 16:
-        return _complain("--%s takes a number from 1" % wrong if wrong else "--port takes 0 to 65535")
+    if wrong or not 0 <= given.port < 1 << 16 or given.ahead < 0:
+        return _complain("--%s takes a number from 1" % wrong if wrong else "--port takes 0 to 65535, --ahead a number from 0")
+    if given.keep and not given.folder:
+        return _complain("--keep FOLDER keeps what students write in a course's exercises: name the course")
     try:
         return _serve(given)
     except (BadCourse, server.NoServer) as error:
@@ -90,10 +108,14 @@ def _serve(given: argparse.Namespace) -> int:
     before = [Path(course.theories).resolve()] if course and os.path.isdir(course.theories) else []
     os.environ[server.MEMORY_VARIABLE] = str(given.memory)
     words = server.find(given.server)
+    server.say_which(words, given.server)
     probed = bridge.Probed(bridge.Program(words, server.probe(words)), None)
-    limits = bridge.Limits(True, str(library), bridge.HELD_MESSAGES, service.MESSAGE_BYTES, bridge.HELD_LAST_SECONDS, tuple(map(str, before)))
+    limits = bridge.Limits(True, str(library), bridge.HELD_MESSAGES, service.MESSAGE_BYTES, bridge.HELD_LAST_SECONDS, tuple(map(str, before)),
+                           float(given.doze), given.files)
     names = {one.name: tuple(each.name for each in one.exercises) for one in course.files} if course else {}
-    born = nursery.Nursery(functools.partial(_bear, probed, given.seconds, limits, names), given.processor)
+    made = functools.partial(_bear, probed, given.seconds, limits, names, _imports(course), bool(given.keep))
+    _rehearse(given.seconds, limits, course)
+    born = nursery.Nursery(made, given.processor)
     try:
         listening = socket.create_server((given.address, given.port), backlog=BACKLOG)
     except OSError as error:
@@ -103,13 +125,37 @@ def _serve(given: argparse.Namespace) -> int:
     settings = service.Settings(
         page, (*before, library), tuple(dict.fromkeys([*own, *map(_origin, given.origin)])), given.sessions, given.each, given.idle * 60.0,
         given.processor, given.memory, given.rate, given.behind_proxy,
-        functools.partial(exercises, course) if course else None, Class(course.title, names) if course else None, given.teacher_key or secrets.token_urlsafe(16))
+        functools.partial(exercises, course) if course else None, Class(course.title, names) if course else None,
+        given.teacher_key or secrets.token_urlsafe(16), given.ahead if course else 0, Keeping(given.keep, names) if given.keep else None,
+        given.quiet, given.share / 100)
     _raise_files()
     print("the page is at %s/%s (end it by Ctrl-C)" % (own[0], "course" if course else ""), flush=True)
     if course:
         print("how far all are, for the teacher alone: %s/teacher/%s" % (settings.origins[-1] if given.origin else own[0], settings.key), flush=True)
-    web.run_app(service.Service(settings, born).application(), sock=listening, print=None, access_log=None, shutdown_timeout=service.END_SECONDS)
+    asyncio.run(service.Service(settings, born).run(listening))
     return 0
+
+
+def _rehearse(seconds: int, limits: bridge.Limits, course: Optional[Course]) -> None:
+    """Does once what each page has its bridge do, so that what that loads is shared by all."""
+    texts = {"lesson": LESSON, **{one.name: one.text for one in course.files}} if course else {"lesson": LESSON}
+    where = {"textDocument": {"uri": "hol:/lesson.hol"}, "position": {"line": 2, "character": 6}}
+    asked = ["proof/goals", "textDocument/completion", "textDocument/hover", "textDocument/documentSymbol", "textDocument/codeLens", "hol/manual"]
+    messages = [{"id": 0, "method": "initialize", "params": {"capabilities": {}, "initializationOptions": {"refused": True}}}]
+    messages += [{"method": "textDocument/didOpen", "params": {"textDocument": {"uri": "hol:/%s.hol" % name, "version": 0, "text": text}}}
+                 for name, text in texts.items()]
+    messages += [{"id": number, "method": method, "params": where} for number, method in enumerate(asked, 1)]
+    Watched(io.BytesIO(), None, seconds, limits).rehearse(messages)
+
+
+def _imports(course: Optional[Course]) -> List[str]:
+    """The theories that a course's exercises import."""
+    found: List[str] = []
+    for given in course.files if course else ():
+        file = File(given.name)
+        file.take(given.text)
+        found += file.imports
+    return list(dict.fromkeys(found))
 
 
 def _origin(address: str) -> Optional[str]:
@@ -122,10 +168,13 @@ def _origin(address: str) -> Optional[str]:
     return "%s://%s" % (parts.scheme, parts.netloc) if is_one else None
 
 
-def _bear(probed: bridge.Probed, seconds: int, limits: bridge.Limits, names: Exercises, pair: socket.socket) -> None:
-    """Runs a bridge, in a process of its own."""
+def _bear(probed: bridge.Probed, seconds: int, limits: bridge.Limits, names: Exercises, imports: List[str], tells_texts: bool, pair: socket.socket,
+          is_ahead: bool) -> None:
+    """Runs a bridge, in a process of its own; one that is made ahead runs what the exercises import at once."""
     made = Watched(pair.makefile("wb"), None, seconds, limits)
-    made.probed, made.exercises = probed, names
+    made.probed, made.exercises, made.tells_texts = probed, names, tells_texts
+    if is_ahead:
+        made.stand(imports)
     bridge.serve(pair.makefile("rb"), made)
 
 

@@ -1,6 +1,6 @@
 """A bridge that tells the server how far its page is with the exercises of a course: which are proved, and what goal stands of the first that isn't.
 
-It tells it by a message of its own, between those for the page, which the server takes out. Only the goal is told, and no more of the text.
+It tells it by a message of its own, between those for the page, which the server takes out. Only the goal is told, and the text where the server keeps it.
 """
 
 from __future__ import annotations
@@ -11,6 +11,7 @@ from typing import Any, Dict, List, Mapping, Optional, Tuple
 
 from holls.files import File
 from holls.lsp.bridge import Bridge
+from holls.lsp.workspace import Document
 from holls.notation import OUTSIDE
 from holls.protocol import Goals, Made
 from holls.view import View
@@ -22,6 +23,8 @@ EVERY_SECONDS = 2.0
 """So often at most it is told."""
 GOAL = 300
 """So many characters of a goal are told."""
+TEXT = 400_000
+"""A text of more characters isn't told."""
 
 Exercises = Mapping[str, Tuple[str, ...]]
 """The exercises of a course, by their files."""
@@ -31,6 +34,7 @@ class Watched(Bridge):
     """A bridge that tells how far its page is."""
 
     exercises: Exercises = {}
+    tells_texts = False
     _told_at = 0.0
     _told_last: Optional[List[Dict[str, Any]]] = None
     _is_new = False
@@ -39,6 +43,10 @@ class Watched(Bridge):
         """There is news."""
         self._is_new = True
         super().told()
+
+    def _changed(self, document: Optional[Document]) -> None:
+        super()._changed(document)
+        self._is_new = True
 
     def _settle(self) -> None:
         super()._settle()
@@ -53,9 +61,19 @@ class Watched(Bridge):
         own = max(0.0, self._told_at + EVERY_SECONDS - time.monotonic())
         return own if waits is None else min(waits, own)
 
+    def end_programs(self) -> None:
+        """Before the end what was still to be told is."""
+        if self._is_new:
+            self._is_new = False
+            self._guard(self._report)
+        super().end_programs()
+
     def _report(self) -> None:
         files = [document.file for document in self.workspace.documents.values()]
-        told = [progress(file, self.exercises[file.theory.name]) for file in files if file.theory.name in self.exercises]
+        told = [progress(file, self.exercises[file.name]) for file in files if file.name in self.exercises]
+        if self.tells_texts:
+            texts = {file.name: file.lines.text for file in files if len(file.lines.text) <= TEXT}
+            told = [dict(one, text=texts.get(one["file"])) for one in told]
         if told and told != self._told_last:
             self._told_last = told
             self.send({"method": METHOD, "params": {"files": told}})
@@ -66,7 +84,7 @@ def progress(file: File, names: Tuple[str, ...]) -> Dict[str, Any]:
     made = _made(file)
     proved = [name for name in names if name in made]
     is_open = next((name for name in names if name not in made), None)
-    return {"file": file.theory.name, "proved": proved, "open": is_open, "goal": _goal(file, is_open) if is_open else None}
+    return {"file": file.name, "proved": proved, "open": is_open, "goal": _goal(file, is_open) if is_open else None}
 
 
 def _made(file: File) -> "set[str]":

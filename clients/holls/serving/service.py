@@ -8,22 +8,32 @@ from __future__ import annotations
 
 import asyncio
 import hmac
+import secrets
+import signal
+import socket
+import sys
+import time
+from collections import deque
 from dataclasses import dataclass, field
 from pathlib import Path
-from typing import Any, Callable, Dict, List, Optional, Sequence, Tuple
+from typing import Any, Callable, Deque, Dict, List, Optional, Sequence, Tuple
 from urllib.parse import urlsplit
 
 from aiohttp import WSCloseCode, WSMsgType, web
 
+from holls.say import say
 from holls.serving import nursery, usage
+from holls.serving.keeping import Keeping, NotKept
 from holls.serving.progress import MARK, params
 from holls.serving.rates import Bucket, ByAddress
-from holls.serving.watching import COOKIE, Class, from_cookie, name_of, to_cookie
+from holls.serving.watching import COOKIE, KEY_COOKIE, Class, from_cookie, key_of, name_of, to_cookie
 
 MESSAGE_BYTES = 4 << 20
 """A longer message, either way, ends the session."""
 BEAT_SECONDS, SEND_SECONDS, END_SECONDS, LOOK_SECONDS = 30, 60, 3, 2.0
 """So often a page is asked whether it is there; so long it may take to read a message, and a bridge to end; so often it is looked what sessions use."""
+SHARE_SECONDS = 80
+"""What a session may have of the processor in so many seconds in the long run it may have at once; then it comes after the others."""
 MESSAGES, MOST_MESSAGES = 50, 500
 """So many messages a second a session may send in the long run, and so many at once. More of them wait."""
 BYTES, MOST_BYTES = 1 << 20, 32 << 20
@@ -34,6 +44,10 @@ BURST_SECONDS = 30
 """An address that was quiet may do at once what else it may do in so many seconds."""
 COOKIE_SECONDS = 200 * 24 * 3600
 """So long a browser keeps a student's name."""
+ASK_SECONDS, NEXT_SECONDS = 20, 15
+"""So long a connection may take until it has asked for something, and then for something else."""
+AHEAD_SECONDS = 1.0
+"""So often at most a bridge is made ahead: it has the processor for as long, where it runs theories."""
 REASON_BYTES = 123
 """So long is the sentence at most with which a socket is closed."""
 
@@ -51,7 +65,8 @@ End = Tuple[int, str]
 class Settings:
     """What the server gives. `origins` are the addresses under which browsers know it, `theories` the folders in which theories are looked for, in
     their order. Where there is a course, `course` makes the page with its exercises for a student's name, `watched` knows how far all are, and who has the
-    `key` sees that."""
+    `key` sees that. So many bridges wait `ahead` of their pages; `keeping` keeps texts; with `is_quiet` nothing is logged. A session may have such
+    a `share` of a processor before it comes after the others."""
 
     page: Path
     theories: Tuple[Path, ...]
@@ -66,16 +81,30 @@ class Settings:
     course: Optional[Callable[[str], str]] = None
     watched: Optional[Class] = None
     key: str = ""
+    ahead: int = 0
+    keeping: Optional[Keeping] = None
+    is_quiet: bool = False
+    share: float = 0.1
 
 
 @dataclass(eq=False)
 class Session:
-    """A page that is open: its socket, its address, the name that its student gave, the number of its bridge, and what says that it is to end."""
+    """A page that is open: its socket, its address, its number, the name that its student gave with the key of the browser, the number of its bridge, and
+    what says that it is to end. `is_kept` until something of it couldn't be kept; `used` seconds of the processor it had when it was looked at last, `share` is
+    what it may have before it `is_behind` the others."""
 
     socket: "web.WebSocketResponse"
+    transport: Optional[asyncio.BaseTransport]
     address: str
+    number: int
+    share: Bucket
     student: str = ""
+    key: str = ""
     process: int = 0
+    is_kept: bool = True
+    used: float = 0.0
+    is_behind: bool = False
+    begun: float = field(default_factory=time.monotonic)
     spent: "asyncio.Future[End]" = field(default_factory=lambda: asyncio.get_running_loop().create_future())
 
 
@@ -88,6 +117,22 @@ class Service:
         self._hosts = {urlsplit(origin).netloc for origin in settings.origins}
         self._policy = _POLICY % " ".join(origin.replace("http", "ws", 1) for origin in settings.origins)
         self._rates = ByAddress(settings.rate, settings.rate * BURST_SECONDS)
+        self._ahead: Deque[Tuple[socket.socket, int]] = deque()
+        self._number = 0
+        self._connections: Callable[[], Sequence[Any]] = tuple
+        self._seen: Dict[asyncio.BaseTransport, float] = {}
+
+    async def run(self, listening: socket.socket) -> None:
+        """Serves until the process is told to end."""
+        runner = web.AppRunner(self.application(), access_log=None, keepalive_timeout=NEXT_SECONDS)
+        await runner.setup()
+        self._connections = lambda: runner.server.connections if runner.server else ()
+        over = asyncio.Event()
+        for number in (signal.SIGINT, signal.SIGTERM):
+            asyncio.get_running_loop().add_signal_handler(number, over.set)
+        await web.SockSite(runner, listening).start()
+        await over.wait()
+        await runner.cleanup()
 
     def application(self) -> "web.Application":
         """What aiohttp runs."""
@@ -95,7 +140,7 @@ class Service:
         made.add_routes([
             web.get("/bridge", self._bridge), web.get("/health", self._health), web.get("/course", self._course), web.get("/", self._file),
             web.get("/teacher/{key}", self._teacher), web.get("/{name}", self._file), web.get("/theories/{name}", self._theory)])
-        made.cleanup_ctx.append(self._looking)
+        made.cleanup_ctx.append(self._working)
         made.on_shutdown.append(self._shut)
         return made
 
@@ -103,6 +148,8 @@ class Service:
 
     async def _guard(self, request: "web.Request", handler: object) -> "web.StreamResponse":
         """Lets through who asks for this server, and not too often."""
+        if request.transport is not None:
+            self._seen[request.transport] = float("inf")
         if request.headers.get("Host", "") not in self._hosts:
             raise web.HTTPForbidden(text="this server isn't known by that name: its --origin says which it has\n")
         if not self._rates.takes(self._address(request)):
@@ -142,7 +189,9 @@ class Service:
         headers["Content-Security-Policy"] = self._policy.replace("form-action 'none'", "form-action 'self'")
         answer = web.Response(text=self.settings.course(name), headers=headers)
         if given is not None:
-            answer.set_cookie(COOKIE, to_cookie(name), httponly=True, samesite="Strict", max_age=COOKIE_SECONDS)
+            key = key_of(request.cookies.get(KEY_COOKIE)) or secrets.token_urlsafe(16)
+            for cookie, value in ((COOKIE, to_cookie(name)), (KEY_COOKIE, key)):
+                answer.set_cookie(cookie, value, httponly=True, samesite="Strict", max_age=COOKIE_SECONDS)
         return answer
 
     async def _teacher(self, request: "web.Request") -> "web.StreamResponse":
@@ -164,17 +213,27 @@ class Service:
             raise web.HTTPForbidden(text="the page comes from elsewhere: --origin says from where it may come\n")
         page = web.WebSocketResponse(heartbeat=BEAT_SECONDS, max_msg_size=MESSAGE_BYTES, timeout=END_SECONDS)
         await page.prepare(request)
-        session = Session(page, self._address(request), from_cookie(request.cookies.get(COOKIE)))
+        self._number += 1
+        cookies = request.cookies
+        session = Session(page, request.transport, self._address(request), self._number,
+                          Bucket(self.settings.share, self.settings.share * SHARE_SECONDS), from_cookie(cookies.get(COOKIE)), key_of(cookies.get(KEY_COOKIE)))
         refused = self._refused(session.address)
         if refused:
-            await _close(page, (FULL, refused))
+            self._log(session, "is refused: %s" % refused)
+            await _close(session, (FULL, refused))
             return page
         self.sessions.append(session)
+        self._log(session, "begins; %d are open" % len(self.sessions))
         try:
             await self._talk(session)
         finally:
             self.sessions.remove(session)
         return page
+
+    def _log(self, session: Session, words: str) -> None:
+        """A line on standard error, with the time. It has nothing that a student has written."""
+        if not self.settings.is_quiet:
+            say("%s page %d of %s %s" % (time.strftime("%Y-%m-%d %H:%M:%S"), session.number, session.address, words), sys.stderr)
 
     def _refused(self, address: str) -> Optional[str]:
         """Why there is no room for another session."""
@@ -187,9 +246,9 @@ class Service:
     async def _talk(self, session: Session) -> None:
         page = session.socket
         try:
-            pair, session.process = self._nursery.bear()
+            pair, session.process = self._born()
         except OSError as error:
-            await _close(page, (ENDED, "no program can be started: %s" % (error.strerror or error)))
+            await _close(session, (ENDED, "no program can be started: %s" % (error.strerror or error)))
             return
         reader, writer = await asyncio.open_connection(sock=pair)
         telling = asyncio.ensure_future(_tell(reader, page, lambda told: self._take(session, told)))
@@ -209,27 +268,79 @@ class Service:
             telling.cancel()
             session.spent.cancel()
             writer.close()
-            await _close(page, end)
+            self._log(session, "ends after %d s: %s" % (time.monotonic() - session.begun, end[1] or "it was closed"))
+            await _close(session, end)
+
+    def _born(self) -> Tuple[socket.socket, int]:
+        """A bridge: one that was made ahead, if one is there that hasn't ended."""
+        while self._ahead:
+            pair, process = self._ahead.popleft()
+            if _is_open(pair):
+                return pair, process
+            pair.close()
+        return self._nursery.bear()
 
     def _take(self, session: Session, told: List[Dict[str, Any]]) -> None:
-        """Takes how far a page is."""
+        """Takes how far a page is, and its texts where these are kept."""
         if self.settings.watched is not None:
             self.settings.watched.hear(session.student or session.address, told)
+        for one in told if self.settings.keeping and session.student and session.key and session.is_kept else ():
+            if one.get("text") is not None:
+                self._keep(session, one["file"], one["text"])
 
-    async def _looking(self, _: "web.Application"):  # noqa: ANN202: aiohttp's way to begin and end something with the server
-        task = asyncio.ensure_future(self._look())
+    def _keep(self, session: Session, file: str, text: str) -> None:
+        try:
+            self.settings.keeping.put(session.student, session.key, file, text)
+        except NotKept as error:
+            session.is_kept = False
+            self._log(session, "isn't kept: %s" % error)
+
+    async def _working(self, _: "web.Application"):  # noqa: ANN202: aiohttp's way to begin and end something with the server
+        tasks = [asyncio.ensure_future(work()) for work in (self._look, self._make_ahead)]
         yield
-        task.cancel()
+        for task in tasks:
+            task.cancel()
+        for pair, _ in self._ahead:
+            pair.close()
+
+    async def _make_ahead(self) -> None:
+        """Has bridges wait for pages, one after the other."""
+        while True:
+            if len(self._ahead) < min(self.settings.ahead, self.settings.sessions - len(self.sessions)):
+                try:
+                    self._ahead.append(self._nursery.bear(True))
+                except OSError:
+                    return  # None can be started any more, as the next page is told.
+            await asyncio.sleep(AHEAD_SECONDS)
 
     async def _look(self) -> None:
         """Looks again and again what sessions use, and ends those that use too much."""
         while True:
             await asyncio.sleep(LOOK_SECONDS)
+            self._end_silent()
             found = usage.of_groups([session.process for session in self.sessions if session.process])
             for session in list(self.sessions):
-                words = self._spent(found.get(session.process, usage.Usage()))
+                used = found.get(session.process, usage.Usage())
+                self._share(session, used.seconds)
+                words = self._spent(used)
                 if words and not session.spent.done():
                     session.spent.set_result((SPENT, words))
+
+    def _share(self, session: Session, seconds: float) -> None:
+        """Puts a session behind the others that has had too much of the processor."""
+        owes = session.share.owes(max(0.0, seconds - session.used))
+        session.used = seconds
+        if owes and not session.is_behind:
+            session.is_behind = True
+            nursery.put_behind(session.process)
+
+    def _end_silent(self) -> None:
+        """Ends connections that haven't asked for anything in their time."""
+        now = time.monotonic()
+        there = [handler.transport for handler in self._connections() if handler.transport is not None]
+        self._seen = {transport: self._seen.get(transport, now) for transport in there}
+        for transport in [one for one, since in self._seen.items() if now - since > ASK_SECONDS]:
+            transport.abort()
 
     def _spent(self, used: usage.Usage) -> Optional[str]:
         """Why a session may use no more."""
@@ -263,6 +374,16 @@ def _is_file(path: Path) -> bool:
         return False
 
 
+def _is_open(pair: socket.socket) -> bool:
+    """Whether a socket's other end is there."""
+    try:
+        return pair.recv(1, socket.MSG_PEEK | socket.MSG_DONTWAIT) != b""
+    except BlockingIOError:
+        return True
+    except OSError:
+        return False
+
+
 def _end_of(*tasks: "asyncio.Future[End]") -> End:
     """With what a session ends: what the first of them says that has ended."""
     for task in tasks:
@@ -271,10 +392,16 @@ def _end_of(*tasks: "asyncio.Future[End]") -> End:
     return ENDED, "the bridge has ended"
 
 
-async def _close(page: "web.WebSocketResponse", end: End) -> None:
-    if not page.closed:
-        code, words = end
-        await page.close(code=code, message=words.encode("utf-8")[:REASON_BYTES])
+async def _close(session: Session, end: End) -> None:
+    """Closes a page's socket with a sentence. The connection of one that reads nothing is cut."""
+    if session.socket.closed:
+        return
+    code, words = end
+    try:
+        await asyncio.wait_for(session.socket.close(code=code, message=words.encode("utf-8")[:REASON_BYTES]), END_SECONDS)
+    except asyncio.TimeoutError:
+        if session.transport is not None:
+            session.transport.abort()
 
 
 async def _tell(reader: asyncio.StreamReader, page: "web.WebSocketResponse", take: Callable[[List[Dict[str, Any]]], None]) -> End:

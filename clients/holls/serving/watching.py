@@ -3,6 +3,7 @@
 from __future__ import annotations
 
 import html
+import re
 import time
 from collections import OrderedDict
 from dataclasses import dataclass, field
@@ -11,12 +12,16 @@ from urllib.parse import quote, unquote
 
 from holls.serving.progress import Exercises
 
-COOKIE = "student"
+COOKIE, KEY_COOKIE = "student", "browser"
+"""The cookies with a student's name, and with the key of the browser in which it was given."""
 NAME = 60
 """So many characters a student's name has at most."""
+_KEY = re.compile(r"[A-Za-z0-9_-]{16,64}\Z")
 STUDENTS = 1_000
 """Of so many it is known how far they are; of more those are forgotten of whom nothing was heard the longest."""
 REFRESH_SECONDS = 10
+PAUSE_SECONDS = 300
+"""Who does nothing for longer has worked so long, and then paused."""
 
 
 def name_of(given: str) -> str:
@@ -34,6 +39,11 @@ def from_cookie(value: Optional[str]) -> str:
     return name_of(unquote(value or "", errors="replace"))
 
 
+def key_of(value: Optional[str]) -> str:
+    """The key that a cookie has, if it can be one."""
+    return value if value and _KEY.match(value) else ""
+
+
 @dataclass
 class At:
     """How far a student is with a file, and since when the goal stands."""
@@ -46,10 +56,11 @@ class At:
 
 @dataclass
 class Student:
-    """What is known of a student: by files, and when something was heard last."""
+    """What is known of a student: by files, when something was heard last, and for how long there was something to hear again and again."""
 
     files: Dict[str, At] = field(default_factory=dict)
-    heard: float = 0.0
+    heard: Optional[float] = None
+    worked: float = 0.0
 
 
 class Class:
@@ -65,7 +76,9 @@ class Class:
         self.students[name] = student
         if len(self.students) > STUDENTS:
             self.students.popitem(last=False)
-        student.heard = self._clock()
+        now = self._clock()
+        student.worked += min(now - student.heard, PAUSE_SECONDS) if student.heard is not None else 0.0
+        student.heard = now
         for one in told:
             was = student.files.get(one["file"])
             is_same = was is not None and (was.open, was.goal) == (one["open"], one["goal"])
@@ -83,7 +96,7 @@ class Class:
         body = "".join(self._row(name, student, name in there) for name, student in rows)
         return ("<!DOCTYPE html>\n<html lang=\"en\"><head><meta charset=\"utf-8\"><title>%s</title><meta http-equiv=\"refresh\" content=\"%d\">"
                 "<link rel=\"stylesheet\" href=\"../style.css\"></head><body class=\"course\"><main><h1>%s: %d here</h1>\n"
-                "<table><thead><tr><th>student</th>%s<th>stands at</th><th>for</th><th>goal</th></tr></thead>\n<tbody>%s</tbody></table>\n"
+                "<table><thead><tr><th>student</th>%s<th>stands at</th><th>for</th><th>goal</th><th>worked</th></tr></thead>\n<tbody>%s</tbody></table>\n"
                 "</main></body></html>\n") % (html.escape(self.title), REFRESH_SECONDS, html.escape(self.title), len(there), head, body)
 
     def _since(self, student: Student) -> float:
@@ -98,4 +111,5 @@ class Class:
         stuck = self.stuck(student)
         at = student.files[stuck] if stuck else None
         cells += ["%s: %s" % (stuck, at.open), "%d min" % ((self._clock() - at.since) // 60), at.goal or ""] if at else ["", "", ""]
+        cells.append("%d min" % (student.worked // 60))
         return "<tr>%s</tr>\n" % "".join("<td>%s</td>" % html.escape(cell) for cell in cells)

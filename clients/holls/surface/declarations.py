@@ -5,7 +5,8 @@
     notation if COND;;                      a form and its constants: if, list, set, pair, let, num, and 1 for the type of one element
     sets UNION 0 1 result;;                 which arguments of a constant, counted from 0, are sets, so that functions there are shown as {x | p};
                                             and whether it makes a set, so that the other side of an equation is one
-    no_notation +;;                         takes an operator or a form back
+    abbreviate `c x = term`;;               has `c x` read as the term (abbreviating.py)
+    no_notation +;;                         takes an operator, a form or an abbreviation back
     local infixr 16 + add;;                 for this file alone, as any of these
 """
 
@@ -14,12 +15,14 @@ from __future__ import annotations
 import re
 from typing import Dict, List, NamedTuple, Optional, Tuple
 
+from holls.surface.abbreviations import Abbreviation
 from holls.surface.errors import Misread
 from holls.surface.table import EMPTY, FORMS, LEFT, MOST_PRECEDENCE, RESULT, RIGHT, Clash, Operator, Table
 
 WORDS: Dict[str, str] = {
     "infixr": "infixr NUM OPERATOR [CONSTANT]", "infixl": "infixl NUM OPERATOR [CONSTANT]", "type_infixr": "type_infixr NUM OPERATOR CONSTRUCTOR",
     "notation": "notation FORM CONSTANT ..", "sets": "sets CONSTANT PLACE ..", "no_notation": "no_notation OPERATOR", "local": "local DECLARATION",
+    "abbreviate": "abbreviate `NAME x .. = term`",
 }
 """The words that begin a declaration, and how each is written."""
 
@@ -66,7 +69,7 @@ class Declaration(NamedTuple):
             raise Misread(*self.ranges[0 if self.kind == "notation" else 1], str(clash)) from None
         without = table.without(words[0])
         if without is None:
-            raise Misread(*self.ranges[0], "`%s` is no operator and no form that is declared here" % words[0])
+            raise Misread(*self.ranges[0], "`%s` is no operator, no form and no abbreviation that is declared here" % words[0])
         return without
 
 
@@ -130,6 +133,10 @@ class Scope(NamedTuple):
             return Scope(table, declaration.added(self.exported))
         except Misread:  # What a local one has, and the file's importers haven't.
             return Scope(table, self.exported)
+
+    def abbreviated(self, new: Abbreviation, is_local: bool) -> "Scope":
+        """The scope behind an abbreviation. Raises `Clash`."""
+        return Scope(self.table.with_abbreviation(new), self.exported if is_local else self.exported.with_abbreviation(new))
 
     def imported(self, other: Table) -> Tuple["Scope", List[str]]:
         """The scope behind an import, and why some of what it declares can't be had."""

@@ -30,8 +30,8 @@ class Definition(NamedTuple):
     end: int
 
 
-def read(reader: Reader) -> Definition:
-    """The definition that a reader's text is. Raises `Misread`."""
+def read(reader: Reader, is_loose: bool = False) -> Definition:
+    """The definition that a reader's text is; a loose one has any term behind its `=`. Raises `Misread`."""
     start = reader.next.start
     found = _by_name(reader) or _by_operator(reader)
     name, arguments, type_ = found
@@ -41,7 +41,7 @@ def read(reader: Reader) -> Definition:
     reader.at += 1
     names = [argument.name for argument in arguments]
     reader.bind(names)
-    body = reader.ended(reader.term(PRECEDENCES["="] if equals.text == "=" else 0, _LOOSE))
+    body = reader.ended(reader.term(PRECEDENCES["="] if equals.text == "=" and not is_loose else 0, _LOOSE))
     reader.unbind(names)
     return Definition(name, arguments, type_, equals.text, equals.start, body, start, body.end)
 

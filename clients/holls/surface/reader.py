@@ -9,9 +9,10 @@ from __future__ import annotations
 from typing import Dict, List, Optional, Tuple
 
 from holls.surface import frames
+from holls.surface.abbreviations import Abbreviation, Expanding
 from holls.surface.errors import Misread
 from holls.surface.frames import Frame, Pattern, Variable
-from holls.surface.table import RIGHT, RUN, Operator, Table
+from holls.surface.table import EMPTY, LONGEST_NUMERAL, RIGHT, RUN, Operator, Table
 from holls.surface.tokens import END, NUMBER, SYMBOL, WORD, Token, bars, misread, tokens, unknown
 from holls.surface.tree import ALONE, BINDERS, PRECEDENCES, Annotation, Application, Name, Symbol, Term, Type, applied
 from holls.surface.types import TypeReader
@@ -21,8 +22,6 @@ _STARTS = frozenset(("(", "[", "{", "~")) | BINDERS
 _ATOMS = frozenset(("(", "[", "{"))
 _CLOSERS = {")": "(", "]": "[", "}": "{"}
 _CONNECTIVES = {symbol: Operator(symbol, precedence, RIGHT, "") for symbol, precedence in PRECEDENCES.items()}
-_LONGEST_NUMERAL = 1_000
-"""Digits of the longest numeral."""
 _LONGEST_RUN = 20
 """An operator that isn't declared has so many characters at most."""
 
@@ -162,10 +161,24 @@ class Reader:
         return whole.term
 
     def ended(self, term: Term) -> Term:
-        """The term, which has to be all of the text."""
+        """The term, which has to be all of the text, with what its abbreviations stand for."""
         if self.next.kind is not END:
             raise self.unexpected()
-        return term
+        words = self.table.abbreviating
+        if not words or not any(token.text in words for token in self.tokens):
+            return term
+        expanding = Expanding(self.table.abbreviations, self._body_of, self.bound)
+        made = expanding.expanded(term)
+        self.is_notation = self.is_notation or expanding.is_used
+        return made
+
+    def _body_of(self, abbreviation: Abbreviation) -> Term:
+        """What an abbreviation stands for, which is read once."""
+        kept: Dict[Abbreviation, Term] = self.table.memory.setdefault("abbreviations", {})
+        if abbreviation not in kept:
+            reader = Reader(abbreviation.body, EMPTY, None)
+            kept[abbreviation] = reader.ended(reader.term())
+        return kept[abbreviation]
 
     def unexpected(self) -> Misread:
         """The error at a token with which no term goes on."""
@@ -380,8 +393,8 @@ class Reader:
         zero, one, even, odd = (self.table.part(part) for part in ("zero", "one", "even", "odd"))
         if zero is None:
             raise Misread(start, end, "there are no numerals here", text)
-        if len(text) > _LONGEST_NUMERAL:
-            raise Misread(start, end, "this numeral has over %d digits" % _LONGEST_NUMERAL)
+        if len(text) > LONGEST_NUMERAL:
+            raise Misread(start, end, "this numeral has over %d digits" % LONGEST_NUMERAL)
         number = int(text)
         if number < 2:
             return self.constant(one if number else zero, start, end, text)

@@ -6,8 +6,15 @@ import re
 from typing import Dict, FrozenSet, List, NamedTuple, Optional, Pattern, Sequence, Tuple
 from weakref import WeakValueDictionary
 
+from holls.surface.abbreviations import Abbreviation
 from holls.surface.tree import ALONE, BINDERS, PRECEDENCES
 
+MOST_BRACKETS = 200
+"""So many brackets may be open at once in a text that the program reads."""
+MOST_TOKENS = 8_192
+"""So many tokens a quotation in notation has at most, which stand for more than the program reads of a command."""
+LONGEST_NUMERAL = 1_000
+"""Digits of the longest numeral."""
 RIGHT, LEFT = "right", "left"
 MOST_PRECEDENCE = 99
 _FIXED = ("<=>", "==>", "\\/", "/\\", "->", "?!", "=", "~", "\\", "!", "?", "@", "(", ")", ".", ":", "[", "]", ";", "{", "}", "|", ",", "`")
@@ -41,7 +48,8 @@ class Clash(Exception):
     """A declaration that can't stand beside an earlier one; the text says why."""
 
 
-Content = Tuple[Tuple[Operator, ...], Tuple[Operator, ...], Tuple[Tuple[str, Tuple[str, ...]], ...], Tuple[Tuple[str, Tuple[int, ...]], ...]]
+Content = Tuple[Tuple[Operator, ...], Tuple[Operator, ...], Tuple[Tuple[str, Tuple[str, ...]], ...], Tuple[Tuple[str, Tuple[int, ...]], ...],
+                Tuple[Abbreviation, ...]]
 
 _TABLES: "WeakValueDictionary[Content, Table]" = WeakValueDictionary()
 
@@ -50,19 +58,21 @@ class Table:
     """What is declared. It never changes, and two tables of one content are one object.
 
     `operators` and `type_operators` are by symbol, `of_constant` and `of_constructor` by what they stand for; `forms` has the constants of each form,
-    `sets` which arguments of a constant are sets, with RESULT where it makes one. `constants` are
+    `sets` which arguments of a constant are sets, with RESULT where it makes one. `abbreviations` are by name, `abbreviating` the words that stand for one. `constants` are
     those that something declared stands for, and `memory` is for what others keep of a table.
     """
 
     def __init__(self, content: Content) -> None:
         self.content = content
-        operators, type_operators, forms, sets = content
+        operators, type_operators, forms, sets, abbreviations = content
         self.operators = {one.symbol: one for one in operators}
         self.of_constant = {one.constant: one for one in operators}
         self.type_operators = {one.symbol: one for one in type_operators}
         self.of_constructor = {one.constant: one for one in type_operators}
         self.forms: Dict[str, Tuple[str, ...]] = dict(forms)
         self.sets: Dict[str, Tuple[int, ...]] = dict(sets)
+        self.abbreviations = {one.name: one for one in abbreviations}
+        self.abbreviating = frozenset(self.abbreviations).union(one.symbol for one in operators if one.constant in self.abbreviations)
         self.words: FrozenSet[str] = frozenset(symbol for symbol in self.operators if _WORD.match(symbol))
         self.reserved: FrozenSet[str] = frozenset(word for form in self.forms for word in _RESERVED.get(form, ()))
         self.constants = frozenset((*self.of_constant, *(name for names in self.forms.values() for name in names)))
@@ -70,6 +80,7 @@ class Table:
         self._of_part = {part: name for form, names in forms for part, name in zip(FORMS[form], names)}
         self._symbols: Optional[FrozenSet[str]] = None
         self._tokens: Optional[Pattern[str]] = None
+        self._parts: Optional[Pattern[str]] = None
         self._notation: Optional[Pattern[str]] = None
 
     @staticmethod
@@ -100,10 +111,16 @@ class Table:
     def tokens(self) -> Pattern[str]:
         """One token, as groups the white space before it and the token: a word, a number, a type variable `?0`, a symbol, or any other character."""
         if self._tokens is None:
-            longest_first = sorted(self.symbols, key=lambda one: (-len(one), one))
-            self._tokens = re.compile(
-                r"([ \t\r\n]*)([A-Za-z_][A-Za-z0-9_']*|[0-9]+|\?[0-9]+|%s|[^ \t\r\n])" % "|".join(map(re.escape, longest_first)))
+            self._tokens = re.compile(r"([ \t\r\n]*)(%s)" % self.parts.pattern)
         return self._tokens
+
+    @property
+    def parts(self) -> Pattern[str]:
+        """One token without the white space before it."""
+        if self._parts is None:
+            longest_first = sorted(self.symbols, key=lambda one: (-len(one), one))
+            self._parts = re.compile(r"[A-Za-z_][A-Za-z0-9_']*|[0-9]+|\?[0-9]+|%s|[^ \t\r\n]" % "|".join(map(re.escape, longest_first)))
+        return self._parts
 
     @property
     def notation(self) -> Pattern[str]:
@@ -111,7 +128,7 @@ class Table:
         if self._notation is None:
             every = [one for one in (*self.operators, *self.type_operators) if one != "," and not _WORD.match(one)]
             symbols = "|".join(re.escape(one) for one in every if not re.search(_NOT_PLAIN, one))
-            words = "|".join(sorted(self.words | self.reserved))
+            words = "|".join(sorted(self.words | self.reserved | frozenset(self.abbreviations)))
             both = [r"(?<![-=<>/\\])(?:%s)(?![-=<>/\\])" % symbols] if symbols else []
             both += [r"(?<![A-Za-z0-9_'])(?:%s)(?![A-Za-z0-9_'])" % words] if words else []
             self._notation = re.compile("|".join([_NOT_PLAIN, *both]))
@@ -155,6 +172,15 @@ class Table:
         joined = tuple(sorted({*self.sets.get(constant, ()), *places}))
         return self._changed(sets=(*((key, value) for key, value in self.sets.items() if key != constant), (constant, joined)))
 
+    def with_abbreviation(self, new: Abbreviation) -> "Table":
+        """The table with an abbreviation. Raises `Clash` where its name stands for another term."""
+        old = self.abbreviations.get(new.name)
+        if old is not None and old != new:
+            raise Clash("`%s` abbreviates another term already: take it back by no_notation %s" % (new.name, new.name))
+        if new.name in self.reserved:
+            raise Clash("`%s` is a word of the notation" % new.name)
+        return self if old is not None else self._changed(abbreviations=(*self.abbreviations.values(), new))
+
     def without(self, what: str) -> Optional["Table"]:
         """The table without an operator, by its symbol, or a form, by its word; None where there is none of these."""
         if what in self.operators or what in self.type_operators:
@@ -163,6 +189,8 @@ class Table:
         if what in self.forms:
             made = self._changed(forms=[(form, names) for form, names in self.forms.items() if form != what])
             return made.without(",") or made if what == "pair" else made
+        if what in self.abbreviations:
+            return self._changed(abbreviations=[one for one in self.abbreviations.values() if one.name != what])
         if what in self.sets:
             return self._changed(sets=[(constant, places) for constant, places in self.sets.items() if constant != what])
         return None
@@ -183,15 +211,19 @@ class Table:
         for constant, places in other.sets.items():
             if made.sets.get(constant) != places:
                 made = made.with_sets(constant, places)
+        for abbreviation in other.abbreviations.values():
+            made = _tried(made, clashes, Table.with_abbreviation, abbreviation)
         return made, clashes
 
     def _changed(self, operators: Optional[Sequence[Operator]] = None, type_operators: Optional[Sequence[Operator]] = None,
                  forms: Optional[Sequence[Tuple[str, Tuple[str, ...]]]] = None,
-                 sets: Optional[Sequence[Tuple[str, Tuple[int, ...]]]] = None) -> "Table":
+                 sets: Optional[Sequence[Tuple[str, Tuple[int, ...]]]] = None,
+                 abbreviations: Optional[Sequence[Abbreviation]] = None) -> "Table":
         old = self.content
         return Table.of((
             old[0] if operators is None else tuple(sorted(operators)), old[1] if type_operators is None else tuple(sorted(type_operators)),
-            old[2] if forms is None else tuple(sorted(forms)), old[3] if sets is None else tuple(sorted(sets))))
+            old[2] if forms is None else tuple(sorted(forms)), old[3] if sets is None else tuple(sorted(sets)),
+            old[4] if abbreviations is None else tuple(sorted(abbreviations))))
 
 
 def _tried(table: Table, clashes: List[str], add, *what) -> Table:
@@ -225,5 +257,5 @@ def _are_prefixes(rest: str) -> bool:
     return not rest or any(rest.startswith(one) and _are_prefixes(rest[len(one):]) for one in _PREFIXES)
 
 
-EMPTY = Table.of(((), (), (), ()))
+EMPTY = Table.of(((), (), (), (), ()))
 """The table of the plain language."""

@@ -16,7 +16,8 @@ MOST_CHARACTERS = 200_000
 """The longest text that is read."""
 
 WORD, NUMBER, VARIABLE, SYMBOL, END = "word", "number", "variable", "symbol", "end"
-_OF_FIRST = {**dict.fromkeys(string.ascii_letters + "_", WORD), **dict.fromkeys(string.digits, NUMBER)}
+OF_FIRST = {**dict.fromkeys(string.ascii_letters + "_", WORD), **dict.fromkeys(string.digits, NUMBER)}
+"""The kinds of words and numbers by their first characters."""
 _VARIABLE = re.compile(r"\?[0-9]")
 _SPACE = " \t\r\n"
 _MOST_KEPT = 20_000
@@ -44,7 +45,7 @@ class _Kinds(Dict[str, Optional[str]]):
     def __missing__(self, part: str) -> Optional[str]:
         if len(self) >= _MOST_KEPT:
             self.clear()
-        kind = _OF_FIRST.get(part[0]) or (SYMBOL if part in self._symbols else VARIABLE if _VARIABLE.match(part) else None)
+        kind = OF_FIRST.get(part[0]) or (SYMBOL if part in self._symbols else VARIABLE if _VARIABLE.match(part) else None)
         self[part] = kind
         return kind
 

@@ -7,29 +7,23 @@ from __future__ import annotations
 
 from bisect import bisect_right
 from functools import partial
-from typing import Callable, Dict, List, Mapping, NamedTuple, Optional, Sequence, Set, Tuple, Union
+from typing import Callable, Dict, List, NamedTuple, Optional, Sequence, Set, Tuple, Union
 
-from holls.surface import definition
+from holls.surface import definition, direct
 from holls.surface.errors import Misread
 from holls.surface.plain import PlainWriter, Segment
 from holls.surface.reader import Reader
 from holls.surface.shown import Printer, Unprintable
-from holls.surface.table import EMPTY, PERHAPS, Table
+from holls.surface.table import EMPTY, MOST_BRACKETS, MOST_TOKENS, PERHAPS, Table
 from holls.surface.tree import Annotation, Application, Binder, Connective, Name, Negation, Term
-from holls.surface.vocabulary import Asked, Vocabulary, agrees
+from holls.surface.vocabulary import Answers, Answered, Asked, Vocabulary, agrees
 
-MOST_BRACKETS = 200
-"""So many brackets may be open at once in a text that the program reads."""
-MOST_TOKENS = 8_192
-"""So many tokens a quotation in notation has at most, which stand for more than the program reads of a command."""
 _DEFINING = "new_definition"
 _MOST_KEPT = 20_000
 _EVERYWHERE = 1 << 60
 _SPACE = " \t\r\n"
 _BETWEEN = ("", " ", "(", ")")
 """What stands between the names and symbols of what is written."""
-
-_Part = Tuple[int, Optional[PlainWriter]]
 
 
 class Translation:
@@ -41,7 +35,7 @@ class Translation:
     __slots__ = ("text", "error", "answers", "_segments")
 
     def __init__(self, text: str, segments: Union[List[Segment], Callable[[], List[Segment]], None] = None, error: Optional[Misread] = None,
-                 answers: Optional[Mapping[Tuple[str, str], Optional[bool]]] = None) -> None:
+                 answers: Optional[Answers] = None) -> None:
         self.text, self.error, self.answers, self._segments = text, error, answers or {}, segments
 
     @property
@@ -115,51 +109,61 @@ def _translated(text: str, table: Table, vocabulary: Vocabulary) -> Translation:
     parts = text.split("`")
     is_defining = text.startswith(_DEFINING) and text[len(_DEFINING):len(_DEFINING) + 1] in _SPACE
     asked = Asked(vocabulary)
-    made: List[_Part] = []
-    at, is_quotation = 0, False
-    last = len(parts) - 1
-    for number, part in enumerate(parts):
-        writer = None
-        if is_quotation and number < last:
+    at, is_changed = 0, False
+    for number in range(len(parts) - 1):
+        part = parts[number]
+        if number % 2:
             try:
-                writer = _quotation(part, at, table, asked, is_defining)
+                found = _sent(part, at, table, asked, is_defining)
             except Misread as error:
                 return Translation("", None, error, asked.answers)
-            if writer is not None:
-                parts[number] = writer.text
-        made.append((len(part), writer))
+            if found is not None:
+                parts[number], is_changed = found, True
         at += len(part) + 1
-        is_quotation = not is_quotation
-    is_changed = any(writer is not None for _, writer in made)
-    return Translation("`".join(parts), partial(_segments, made), None, asked.answers) if is_changed else Translation(text, None, None, asked.answers)
+    if not is_changed:
+        return Translation(text, None, None, asked.answers)
+    return Translation("`".join(parts), partial(_segments, text, parts, table, asked.answers, is_defining), None, asked.answers)
 
 
-def _segments(parts: Sequence[_Part]) -> List[Segment]:
-    """What leads back from the places of a command of parts, between which backquotes stand: each a number of characters that are sent as they are
-    written, or else that of those in whose place something was written."""
+def _segments(text: str, sent: Sequence[str], table: Table, answers: Answers, is_defining: bool) -> List[Segment]:
+    """What leads back from the places of a command that is sent in parts, between which backquotes stand."""
     found: List[Segment] = []
+    vocabulary = Answered(answers)
     length = at = 0
-    for number, (written, writer) in enumerate(parts):
+    for number, (written, part) in enumerate(zip(text.split("`"), sent)):
         if number:
             found.append((length, at, at + 1))
             length, at = length + 1, at + 1
-        found += [(length, at, at + written)] if writer is None else writer.segments(length)
-        length += written if writer is None else len(writer.text)
-        at += written
+        writer = _writer(written, at, table, vocabulary, is_defining) if part != written else None
+        found += writer.segments(length) if writer is not None and writer.text == part else [(length, at, at + len(written))]
+        length += len(part)
+        at += len(written)
     return found
 
 
-def _quotation(text: str, base: int, table: Table, vocabulary: Vocabulary, is_defining: bool) -> Optional[PlainWriter]:
+def _writer(text: str, base: int, table: Table, vocabulary: Vocabulary, is_defining: bool) -> Optional[PlainWriter]:
+    """A quotation that is sent otherwise, with where its parts come from."""
+    try:
+        return _written(text, base, table, vocabulary, is_defining)
+    except Misread:
+        return None
+
+
+def _sent(text: str, base: int, table: Table, vocabulary: Vocabulary, is_defining: bool) -> Optional[str]:
     """A quotation as it is sent; None where that is as it is written. Raises `Misread` where it is in notation and can't be read."""
     is_certain = bool(table.notation.search(text))
     if not is_certain and not PERHAPS.search(text):
         return None
+    found = None if is_defining else direct.written(text, table, vocabulary)
+    if found is not None:
+        return None if found is text else found
     try:
-        return _written(text, base, table, vocabulary, is_defining)
+        writer = _written(text, base, table, vocabulary, is_defining)
     except Misread:
         if is_certain:
             raise
         return None
+    return None if writer is None else writer.text
 
 
 def _written(text: str, base: int, table: Table, vocabulary: Vocabulary, is_defining: bool) -> Optional[PlainWriter]:

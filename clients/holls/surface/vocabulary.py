@@ -11,6 +11,10 @@ PRELUDE_TYPES = {"bool": 0, "ind": 0, "fun": 2}
 PRELUDE_CONSTANTS = frozenset(("T", "F", "ONE_ONE", "ONTO"))
 
 
+Answers = Mapping[Tuple[str, str], Optional[bool]]
+"""What a vocabulary was asked of a type or a constant of a name, with what it answered."""
+
+
 class Vocabulary:
     """The constants, and the constructors with the numbers of their arguments, beside those of the prelude."""
 
@@ -31,8 +35,7 @@ class Vocabulary:
 class Asked(Vocabulary):
     """A vocabulary that keeps what it was asked, with its answers: what was read by it holds wherever the answers are the same."""
 
-    def __init__(self, over: Vocabulary) -> None:
-        super().__init__()
+    def __init__(self, over: Vocabulary) -> None:  # The names stand in `over`, so that nothing else is made.
         self.over = over
         self.answers: Dict[Tuple[str, str], Optional[bool]] = {}
 
@@ -45,10 +48,26 @@ class Asked(Vocabulary):
         return found
 
 
-def agrees(vocabulary: Vocabulary, answers: Mapping[Tuple[str, str], Optional[bool]]) -> bool:
+class Answered(Vocabulary):
+    """A vocabulary that answers as another one did."""
+
+    def __init__(self, answers: Answers) -> None:
+        super().__init__()
+        self._answers = answers
+
+    def takes_arguments(self, name: str) -> Optional[bool]:
+        return self._answers.get(("type", name))
+
+    def is_constant(self, name: str) -> bool:
+        return bool(self._answers.get(("constant", name)))
+
+
+def agrees(vocabulary: Vocabulary, answers: Answers) -> bool:
     """Whether a vocabulary gives these answers."""
-    return all((vocabulary.takes_arguments(name) if kind == "type" else vocabulary.is_constant(name)) == answer
-               for (kind, name), answer in answers.items())
+    for (kind, name), answer in answers.items():
+        if (vocabulary.takes_arguments(name) if kind == "type" else vocabulary.is_constant(name)) != answer:
+            return False
+    return True
 
 
 EVERY_TYPE = None

@@ -15,11 +15,9 @@ use Rattle.hol_conv.specs.declared.redexes.Redexes.{Redexes}
 use Rattle.hol_conv.specs.declared.frame.Step.{Step}
 use Rattle.hol_conv.specs.declared.frame.Step.TheVariants.{Function, Argument, Body}
 use Rattle.hol_conv.specs.declared.frame.Frame.{Frame}
-use Rattle.hol_conv.specs.declared.frame.After.{After}
-use Rattle.hol_conv.specs.declared.frame.After.TheVariants.{Next, Around}
 use Rattle.hol_conv.specs.Redexes.{contraction, IsOutside, passes_over}
 use Rattle.hol_conv.specs.Turns.{turn}
-use Rattle.hol_conv.specs.Places.{around, whole, FitsIn, NoneLeft, AreWalked, NoneAbove, ArePassedOver, AreMarked, Stands, Lands, StepsIn, ComesAfter, waiting, right_of}
+use Rattle.hol_conv.specs.Places.{around, whole, FitsIn, NoneLeft, AreWalked, NoneAbove, ArePassedOver, AreMarked, Stands, Lands, StepsIn, waiting, right_of}
 use Rattle.hol_conv.proofs.Outside.{commutes, turn_close}
 use Rattle.hol_conv.proofs.Parts.{nodes_of_body}
 
@@ -208,11 +206,11 @@ as_many_wait fs gs f e other =
     by (Body v) other = refl
 
 -- out of a term whose last part has no redex
-pub goes_out : (r : Redexes) (os fs gs : List Frame) (f : Frame) (o : Nameless) (t u : Named) → fs ≡ gs ++ f ∷ [] → ComesAfter f t (Around u) → Lands r os o (reverse fs) (nameless [] t) → turn (contraction r) [] (nameless [] t) ≡ None → Lands r os o (reverse gs) (nameless [] u) × (turn (contraction r) [] (nameless [] u) ≡ None) × (waiting (reverse gs) ≡ waiting (reverse fs))
-goes_out r os fs gs f o t u is after lands none = (
-  lands_again r os (reverse fs) (reverse gs) o (nameless [] t) (nameless [] u) lands (stepped_out r fs gs f (nameless [] t) (nameless [] u) is after.0 lands.stands),
-  nothing_around r fs gs f (nameless [] t) (nameless [] u) is after.0 after.1 lands.stands none,
-  as_many_wait fs gs f is after.1,
+pub goes_out : (r : Redexes) (os fs gs : List Frame) (f : Frame) (o n m : Nameless) → fs ≡ gs ++ f ∷ [] → m ≡ around f.step n → ((x : Named) → f.step ≡ Function x → ⊥) → Lands r os o (reverse fs) n → turn (contraction r) [] n ≡ None → Lands r os o (reverse gs) m × (turn (contraction r) [] m ≡ None) × (waiting (reverse gs) ≡ waiting (reverse fs))
+goes_out r os fs gs f o n m is at other lands none = (
+  lands_again r os (reverse fs) (reverse gs) o n m lands (stepped_out r fs gs f n m is at lands.stands),
+  nothing_around r fs gs f n m is at other lands.stands none,
+  as_many_wait fs gs f is other,
 )
 
 pub less_in_argument : (fs gs hs : List Frame) (f k : Frame) (t x : Named) (w : ℕ) → fs ≡ gs ++ f ∷ [] → hs ≡ gs ++ k ∷ [] → f.step ≡ Function x → k.step ≡ Argument t → waiting (reverse fs) ≡ w → (o : Named) → waiting (reverse hs) + term_nodes x < w + term_nodes o
@@ -226,24 +224,24 @@ steps_in s fs gs f e k over = record { frame = f; pushed = e; how = k; unseen = 
 
 pub ruleset stepping = (steps_in)
 
-not_function : (s : Step) (f : Named) → s ≡ Argument f → (x : Named) → s ≡ Function x → ⊥
+pub not_function : (s : Step) (f : Named) → s ≡ Argument f → (x : Named) → s ≡ Function x → ⊥
 not_function s f e x k = let no : Argument f ≡ Function x = sym e ∙ k in absurd (cc)
 
-not_function_body : (s : Step) (v : List ℕ × TypeTree) → s ≡ Body v → (x : Named) → s ≡ Function x → ⊥
+pub not_function_body : (s : Step) (v : List ℕ × TypeTree) → s ≡ Body v → (x : Named) → s ≡ Function x → ⊥
 not_function_body s v e x k = let no : Body v ≡ Function x = sym e ∙ k in absurd (cc)
 
-pub next_argument : (f k : Frame) (x t : Named) (a : After) → a ≡ Next k x → f.step ≡ Function x → k.step ≡ Argument t → k.is_passed_over ≡ f.is_passed_over → ComesAfter f t a
-next_argument f k x t a e p q o = subst (ComesAfter f t) (sym e) (p, q, o)
+-- the term around
+pub around_argument : (s : Step) (g t u : Named) → s ≡ Argument g → u ≡ comb g t → nameless [] u ≡ around s (nameless [] t)
+around_argument s g t u k d = ap (nameless []) d ∙ sym (ap (λ z. around z (nameless [] t)) k)
 
-pub next_application : (f : Frame) (g t u : Named) (a : After) → a ≡ Around u → f.step ≡ Argument g → u ≡ comb g t → ComesAfter f t a
-next_application f g t u a e k d = subst (ComesAfter f t) (sym e) (ap (nameless []) d ∙ sym (ap (λ s. around s (nameless [] t)) k), not_function f.step g k)
+pub around_body : (s : Step) (v : List ℕ × TypeTree) (t u : Named) → s ≡ Body v → u ≡ abs v t → nameless [] u ≡ around s (nameless [] t)
+around_body s v t u k d = around_abstraction v t u d ∙ sym (ap (λ z. around z (nameless [] t)) k)
 
-pub next_abstraction : (f : Frame) (v : List ℕ × TypeTree) (t u : Named) (a : After) → a ≡ Around u → f.step ≡ Body v → u ≡ abs v t → ComesAfter f t a
-next_abstraction f v t u a e k d = subst (ComesAfter f t) (sym e) (around_abstraction v t u d ∙ sym (ap (λ s. around s (nameless [] t)) k), not_function_body f.step v k)
+-- the part fits there
+pub fits_argument : (s : Step) (g t : Named) → s ≡ Argument g → FitsIn s (nameless [] t) → named_type (comb g t) ≡ None → ⊥
+fits_argument s g t k h = fits_function g t (subst (λ z. FitsIn z (nameless [] t)) k h)
 
-pub ruleset coming_after = (fits_function, next_argument, next_application, next_abstraction)
-
-pub ruleset leaving = (fits_innermost, on_to_argument, less_in_argument, stepped_out, nothing_around, as_many_wait, lands_again, stays)
+pub ruleset leaving = (fits_innermost, fits_argument, on_to_argument, less_in_argument, stepped_out, nothing_around, as_many_wait, lands_again, stays)
 
 pub ruleset going = (lands_again, stays)
 

@@ -264,6 +264,10 @@ pub on_ok : {A E : Type 0} (r : Result A E) (P Q : Type 0) → (P → Q) → OnO
 on_ok (Ok a) P Q f h = f h
 on_ok (Err e) P Q f h = tt
 
+pub on_ok_all : {A E : Type 0} (r : Result A E) (P Q S T : Type 0) → (P → Q → S → T) → OnOk r P → OnOk r Q → OnOk r S → OnOk r T
+on_ok_all (Ok a) P Q S T f h k l = f h k l
+on_ok_all (Err e) P Q S T f h k l = tt
+
 pub ruleset joining = (after_nothing)
 
 pub ruleset following = (both_after)

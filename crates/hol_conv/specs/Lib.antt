@@ -9,3 +9,4 @@ pub mod Beside
 pub mod Ends
 pub mod Traces
 pub mod Tracing
+pub mod Kept

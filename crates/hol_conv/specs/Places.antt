@@ -2,21 +2,17 @@
 -- Source: G. Huet, The Zipper (Journal of Functional Programming 7, 1997).
 use Rattle.std.specs.Prelude.{◌≡◌, ℕ, suc, ◌+◌, ◌≤◌, List, [], ◌∷◌, ◌++◌, Bool, true, false, Option, Some, None}
 use Rattle.hol_types.specs.Tree.{type_size}
-use Rattle.hol_terms.specs.Named.{Named, term_nodes}
+use Rattle.hol_terms.specs.Named.{term_nodes}
 use Rattle.hol_terms.specs.Nameless.{Nameless, app, nameless, nameless_type}
 use Rattle.hol_terms.specs.Size.{term_size}
 use Rattle.hol_subst.specs.Closing.{bind}
 use Rattle.hol_match.specs.Outlines.{AreAlike}
 use Rattle.hol_conv.specs.Redexes.{contraction, IsOutside, depth, passes_over}
 use Rattle.hol_conv.specs.Turns.{turn}
-use Rattle.hol_conv.specs.Tracing.{Traces, redex_givens}
 use Rattle.hol_conv.specs.declared.redexes.Redexes.{Redexes}
 use Rattle.hol_conv.specs.declared.frame.Step.{Step}
 use Rattle.hol_conv.specs.declared.frame.Step.TheVariants.{Function, Argument, Body}
 use Rattle.hol_conv.specs.declared.frame.Frame.{Frame}
-use Rattle.hol_conv.specs.declared.frame.After.{After}
-use Rattle.hol_conv.specs.declared.frame.After.TheVariants.{Next, Around}
-use Rattle.hol_conv.specs.declared.trace_node.TraceNode.{TraceNode}
 
 -- the term around the part n
 abbrev pub around : Step → Nameless → Nameless
@@ -87,11 +83,6 @@ pub record ComesBack (s : Step) (over : Bool) (fs gs : List Frame) : Type 0 wher
   pub how : frame.step ≡ s
   pub seen : frame.is_passed_over ≡ over
 
--- what comes after the part t, which has no redex
-abbrev pub ComesAfter : Frame → Named → After → Type 0
-ComesAfter f t (Next k x) = (f.step ≡ Function x) × (k.step ≡ Argument t) × (k.is_passed_over ≡ f.is_passed_over)
-ComesAfter f t (Around u) = (nameless [] u ≡ around f.step (nameless [] t)) × ((x : Named) → f.step ≡ Function x → ⊥)
-
 -- ---- after a turn
 
 -- The part n took the place of `before`, which stood and has its type, in the frames of fs or within them: the two are equal but for what
@@ -127,13 +118,3 @@ abbrev pub beside_size : Step → ℕ
 beside_size (Function x) = term_size [] (nameless [] x)
 beside_size (Argument f) = term_size [] (nameless [] f)
 beside_size (Body v) = type_size v.1
-
--- ---- traces
-
--- what the trace a says of the part, n says of the term around it
-abbrev pub LeadsAround : Step → TraceNode → TraceNode → Type 0
-LeadsAround s a n = (r : Redexes) (t u : Nameless) → NoneLeft r s → Traces (redex_givens r) a t u → Traces (redex_givens r) n (around s t) (around s u)
-
--- and of the whole term
-abbrev pub LeadsThrough : List Frame → TraceNode → TraceNode → Type 0
-LeadsThrough fs a n = (r : Redexes) (t u : Nameless) → AreWalked r fs t → Traces (redex_givens r) a t u → Traces (redex_givens r) n (whole fs t) (whole fs u)

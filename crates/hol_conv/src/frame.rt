@@ -57,53 +57,10 @@ pub(crate) struct Frame {
     pub(crate) is_passed_over: bool,
 }
 
-/// What comes after a part that has no redex.
-#[derive(Drop)]
-pub(crate) enum After {
-    /// The argument, where the part was the function.
-    Next(Frame, Term),
-    /// The term around it, the last part of which it was.
-    Around(Term),
-}
-
-impl Frame {
-    ghost use Rattle.hol_conv.specs.Places.{FitsIn, ComesAfter};
-
-    /// What comes after the part, which has no redex. Where the term that was stepped into is given and is the term around the part, that
-    /// one is taken and not made again.
-    #[tactic(auto, using(crate::proofs::Places::coming_after))]
-    pub(crate) fn after(
-        self,
-        alloc: Global,
-        entered: &Option<Term>,
-        part: &Term,
-    ) -> Result<After, AllocError>
-        requires { FitsIn self.step (nameless [] part.now) }
-        ensures { IfOk result (λ a. ComesAfter self part.now a) }
-    {
-        let Frame {
-            step,
-            is_passed_over,
-        } = self;
-        match step {
-            Step::Function(x) => {
-                let step = Step::Argument(part.copy()?);
-                let frame = Frame {
-                    step,
-                    is_passed_over,
-                };
-                Ok(After::Next(frame, x))
-            }
-            Step::Argument(f) => Ok(After::Around(application_of(alloc, entered, &f, part)?)),
-            Step::Body(v) => Ok(After::Around(abstraction_of(alloc, entered, &v, part)?)),
-        }
-    }
-}
-
-// The application of `f` to `x`: the term `entered` itself, where its parts are these very nodes.
-fn application_of(
+/// The application of `f` to `x`: the term `entered` itself, where its parts are these very nodes.
+pub(crate) fn application_of(
     alloc: Global,
-    entered: &Option<Term>,
+    entered: Option<&Term>,
     f: &Term,
     x: &Term,
 ) -> Result<Term, AllocError>
@@ -129,10 +86,10 @@ fn is_application_of(t: &Term, f: &Term, x: &Term) -> bool
     }
 }
 
-// The abstraction of `v` in `body`: the term `entered` itself, where it is of this variable and this very node.
-fn abstraction_of(
+/// The abstraction of `v` in `body`: the term `entered` itself, where it is of this variable and this very node.
+pub(crate) fn abstraction_of(
     alloc: Global,
-    entered: &Option<Term>,
+    entered: Option<&Term>,
     v: &Variable,
     body: &Term,
 ) -> Result<Term, AllocError>

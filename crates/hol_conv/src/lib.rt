@@ -8,6 +8,7 @@ mod beta;
 mod ended;
 mod error;
 mod frame;
+mod kept;
 pub mod laws;
 mod once_beside;
 mod place;

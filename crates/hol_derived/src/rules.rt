@@ -3,15 +3,15 @@ ghost use Rattle.std.specs.Prelude.{◌≡◌, [], true, false, IfOk, IsSome, So
 ghost use Rattle.std.specs.FinSet as set;
 ghost use Rattle.hol_terms.specs.Nameless.{nameless};
 ghost use Rattle.hol_subst.specs.Variant.{is_free_in};
-ghost use Rattle.hol_formulas.specs.Formula.{conjunction, negation, truth};
+ghost use Rattle.hol_formulas.specs.Formula.{negation, truth};
 ghost use Rattle.hol_kernel.specs.Sequent.{no_hyps, sequent_of};
 ghost use Rattle.hol_terms.specs.Named.{named_type};
 ghost use Rattle.hol_formulas.specs.Equation.{bool_type, mk_eq};
 ghost use Rattle.hol_formulas.specs.Making.{mk_conj, mk_disj, mk_falsity, mk_imp, mk_neg, mk_truth};
 ghost use Rattle.hol_kernel.specs.Theorem.{theorem_on, over};
 ghost use Rattle.hol_kernel.specs.Typing.{is_type};
-ghost use Rattle.hol_equal.specs.Applied.{lhs, rand, rhs};
-ghost use Rattle.hol_derived.specs.Applied.{generalized, false_of, first_conjunct, second_conjunct};
+ghost use Rattle.hol_equal.specs.Applied.{rand};
+ghost use Rattle.hol_derived.specs.Applied.{generalized, false_of};
 ghost use Rattle.hol_derived.specs.Rules.{conj_of, conjunct1_of, conjunct2_of, mp_of, disch_of, undisch_of, not_intro_of, disj1_of, disj2_of, contr_of, gen_of, eqt_intro_of};
 
 use hol_formulas::{dest_conj, dest_imp, dest_neg, mk_forall, mk_truth};
@@ -68,36 +68,6 @@ pub fn conjunct2(a: &Thm) -> Result<Thm, AllocError>
         unreachable!()
     };
     let concl = q.copy()?;
-    let hyps = a.hypotheses().copy()?;
-    Thm::closed(a.basis(), hyps, concl)
-}
-
-/// CONJUNCT1, for a theorem that is known to be a conjunction.
-pub fn left_conjunct(a: &Thm) -> Result<Thm, AllocError>
-    requires is { a.now.sequent.concl ≡ conjunction (lhs a.now.sequent.concl) (rhs a.now.sequent.concl) }
-    ensures { IfOk result (λ th. th ≡ theorem_on a.now.basis (first_conjunct a.now.sequent)) }
-{
-    a.promise();
-    a.well_typed();
-    let Some((left, _right)) = dest_conj(a.concl()) else {
-        unreachable!()
-    };
-    let concl = left.copy()?;
-    let hyps = a.hypotheses().copy()?;
-    Thm::closed(a.basis(), hyps, concl)
-}
-
-/// CONJUNCT2, for a theorem that is known to be a conjunction.
-pub fn right_conjunct(a: &Thm) -> Result<Thm, AllocError>
-    requires is { a.now.sequent.concl ≡ conjunction (lhs a.now.sequent.concl) (rhs a.now.sequent.concl) }
-    ensures { IfOk result (λ th. th ≡ theorem_on a.now.basis (second_conjunct a.now.sequent)) }
-{
-    a.promise();
-    a.well_typed();
-    let Some((_left, right)) = dest_conj(a.concl()) else {
-        unreachable!()
-    };
-    let concl = right.copy()?;
     let hyps = a.hypotheses().copy()?;
     Thm::closed(a.basis(), hyps, concl)
 }

@@ -15,7 +15,7 @@ use Rattle.hol_document.proofs.Goals.{finished_goals}
 
 -- ---- one row more
 
-made_more : (rows : List Row) (row : Row) (e : KeyValue × EntryValue) → IsMadeIn rows e → IsMadeIn (rows ++ row ∷ []) e
+abbrev pub made_more : (rows : List Row) (row : Row) (e : KeyValue × EntryValue) → IsMadeIn rows e → IsMadeIn (rows ++ row ∷ []) e
 made_more rows row e h = record {
   before = h.before;
   row = h.row;

@@ -7,7 +7,7 @@ ghost use Rattle.hol_document.specs.Shown.{IsProvedReport, IsProvedBasis, ArePro
 
 use crate::items::item_texts;
 use crate::theories::Theories;
-use hol_exec::{Report, entry_text, goals_of, report_with};
+use hol_exec::{Report, Room, entry_text, goals_of, report_with};
 use hol_theory::{Env, Key, Kind, Value, ValueNode};
 use std::alloc::{AllocError, Global};
 
@@ -78,9 +78,10 @@ fn theorem_texts(alloc: Global, env: &Env) -> Result<Vec<String>, AllocError>
     ensures { IfOk result (λ texts. map string_bytes texts.items ≡ theorem_texts env.now) }
 {
     let mut texts = Vec::with_capacity(alloc, env.len())?;
+    let mut room = Room::new();
     for i in 0..env.len() {
         let (key, entry) = env.entry(i);
-        add_theorem(alloc, &mut texts, key, entry)?;
+        add_theorem(alloc, &mut texts, &mut room, key, entry)?;
     }
     Ok(texts)
 }
@@ -89,6 +90,7 @@ fn theorem_texts(alloc: Global, env: &Env) -> Result<Vec<String>, AllocError>
 fn add_theorem(
     alloc: Global,
     texts: &mut Vec<String>,
+    room: &mut Room,
     key: &Key,
     entry: &Value,
 ) -> Result<(), AllocError>
@@ -96,7 +98,11 @@ fn add_theorem(
 {
     match entry.node() {
         ValueNode::Type { .. } | ValueNode::Constant { .. } | ValueNode::Tac { .. } => {}
-        ValueNode::Theorem(_) => texts.push(entry_text(alloc, key, entry)?)?,
+        ValueNode::Theorem(_) => {
+            let text = entry_text(alloc, key, entry)?;
+            room.take(text.as_str())?;
+            texts.push(text)?;
+        }
     }
     Ok(())
 }

@@ -11,7 +11,7 @@ ghost use Rattle.hol_document.specs.Slots.{IsSlot};
 
 use crate::line::Line;
 use crate::slot::Slot;
-use hol_exec::{LocalCommand, Outcome, Reads, SetupTable, Tested, agrees};
+use hol_exec::{LocalCommand, Outcome, Reads, ReadsMark, SetupTable, Tested, agrees};
 use hol_theory::Env;
 use lru::LruCache;
 use std::alloc::{AllocError, Global};
@@ -19,12 +19,18 @@ use std::marker::Model;
 use std::num::NonZeroUsize;
 use std::rc::Rc;
 
-// What an outcome is found by: the text of its command, and what that read.
+// What an outcome is found by: the text of its command, and what tells most of what that read apart.
 #[derive(PartialEq, Eq, Hash, Drop)]
 struct RunKey {
     text: Rc<String>,
-    reads: Rc<Reads>,
+    mark: ReadsMark,
 }
+
+// The most that all outcomes hold, in nodes of terms: some 90 bytes each.
+const LARGEST_WEIGHT: u32 = 4_000_000;
+
+// How many bytes of a text, with what it reads as, count one node.
+const NODE_BYTES: u32 = 4;
 
 // A command that was run: its text, what it read, which names of constants were tested, and what it came to.
 #[derive(Drop)]
@@ -33,6 +39,7 @@ struct Run {
     reads: Rc<Reads>,
     tested: Rc<Tested>,
     outcome: Rc<Outcome>,
+    weight: u32,
 }
 
 impl Model for Run {
@@ -73,14 +80,20 @@ impl Run {
     {
         &self.outcome
     }
+
+    // How much it holds, in nodes of terms.
+    fn weight(&self) -> u32 {
+        self.weight
+    }
 }
 
-/// Outcomes that have left their slots, under the texts of their commands and what these read; all of one set-up. The one that has not left a slot for longest gives way where a
-/// new one finds no room.
+/// Outcomes that have left their slots, one for each text of a command and mark of what it read; all of one set-up. The one that has not left a slot for longest gives way where a
+/// new one finds no room; all do, where they would hold too much with it.
 #[derive(Drop)]
 pub(crate) struct Cache {
     setup: Rc<SetupTable>,
     runs: LruCache<RunKey, Run>,
+    weight: u32,
 }
 
 impl Model for Cache {
@@ -106,7 +119,11 @@ impl Cache {
             unreachable!()
         };
         let runs = LruCache::new(alloc, room)?;
-        Ok(Cache { setup, runs })
+        Ok(Cache {
+            setup,
+            runs,
+            weight: 0,
+        })
     }
 
     /// What the command came to where it read this, if that is there and was run where the names that were tested are those of constants, or not, as they are here. It stays,
@@ -123,7 +140,7 @@ impl Cache {
     {
         let key = RunKey {
             text: line.text().clone()?,
-            reads: reads.clone()?,
+            mark: reads.mark(),
         };
         let Some(run) = self.runs.peek(&key) else {
             return Ok(None);
@@ -137,16 +154,59 @@ impl Cache {
         Ok(None)
     }
 
-    /// Puts in the slot's outcome, if its command was run. Where there is no memory for it, it is lost.
+    /// Puts in the slot's outcome, if its command was run. Where there is no memory for it, or it holds too much by itself, it is lost.
     pub(crate) fn put(&mut self, slot: &Slot)
         requires { (before : List EndedTheory) × (s : StateValue) × IsSlot self.old before s slot.now }
         ensures { self.new ≡ self.old }
     {
         if let Some(reads) = slot.reads() {
             if let Ok((key, run)) = run_of(slot, reads) {
-                let _ = self.runs.put(key, run);
+                self.put_run(key, run);
             }
         }
+    }
+
+    // Puts in the run under this key, unless it holds too much by itself.
+    fn put_run(&mut self, key: RunKey, run: Run)
+        requires { IsRun self.old run }
+        ensures { self.new ≡ self.old }
+    {
+        let weight = run.weight();
+        if weight > LARGEST_WEIGHT {
+            return;
+        }
+        self.make_room(weight);
+        if let Ok(left) = self.runs.push(key, run) {
+            self.weight = self
+                .weight
+                .saturating_add(weight)
+                .saturating_sub(weight_of(&left));
+        }
+    }
+
+    // Drops all outcomes, where they would hold too much with one more of this weight.
+    fn make_room(&mut self, weight: u32)
+        ensures { self.new ≡ self.old }
+    {
+        if self.weight.saturating_add(weight) > LARGEST_WEIGHT {
+            self.clear();
+        }
+    }
+
+    /// Drops all outcomes.
+    pub(crate) fn clear(&mut self)
+        ensures { self.new ≡ self.old }
+    {
+        self.runs.clear();
+        self.weight = 0;
+    }
+}
+
+// How much the run that has left the cache holds, if one has.
+fn weight_of(left: &Option<(RunKey, Run)>) -> u32 {
+    match left {
+        Some(left) => left.1.weight(),
+        None => 0,
     }
 }
 
@@ -165,13 +225,21 @@ fn run_of(slot: &Slot, reads: &Rc<Reads>) -> Result<(RunKey, Run), AllocError>
     let line = slot.line().clone()?;
     let key = RunKey {
         text: line.text().clone()?,
-        reads: reads.clone()?,
+        mark: reads.mark(),
     };
     let run = Run {
         line,
         reads: reads.clone()?,
         tested: slot.tested().clone()?,
         outcome: slot.outcome().clone()?,
+        weight: weight_in(slot, reads),
     };
     Ok((key, run))
+}
+
+// How much the slot's run holds, in nodes of terms: its text with what that reads as, what it read, and what it came to.
+fn weight_in(slot: &Slot, reads: &Reads) -> u32 {
+    let text = slot.line().text().len().min(1_000_000) as u32 / NODE_BYTES;
+    text.saturating_add(reads.weight())
+        .saturating_add(slot.outcome().weight())
 }

@@ -180,6 +180,14 @@ impl Docs {
         Ok(())
     }
 
+    /// Drops the outcomes that have left the documents. Nothing but memory, and the time of edits, tells whether they are there.
+    pub fn forget(&mut self)
+        ensures documents { documents self.new ≡ documents self.old }
+        ensures ran { ran_of self.new ≡ ran_of self.old }
+    {
+        self.runner.forget();
+    }
+
     /// The report on the command at a place of a theory: what running the documents afresh says. The theorems that it shows are those of
     /// `Thm`s, so each has a derivation.
     ///

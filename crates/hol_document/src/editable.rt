@@ -75,6 +75,11 @@ pub trait Editable {
         ensures uncounted { IfErr result (IfRefused (λ refusal. ran self.new ≡ ran self.old)) }
         ensures rises { ran self.old ≤ ran self.new };
 
+    /// Drops what takes memory and nothing tells, as [`Docs::forget`].
+    fn forget(&mut self)
+        ensures documents { value self.new ≡ value self.old }
+        ensures ran { ran self.new ≡ ran self.old };
+
     /// How many commands were run, as [`Docs::ran`].
     fn ran(&self) -> u64
         ensures { result ≡ ran self.now };
@@ -123,6 +128,10 @@ impl Editable for Docs {
 
     fn remove(&mut self, theory: &str, at: usize) -> Result<(), DocsError> {
         Docs::remove(self, theory, at)
+    }
+
+    fn forget(&mut self) {
+        Docs::forget(self)
     }
 
     fn ran(&self) -> u64 {

@@ -16,7 +16,7 @@ use hol_exec::{State, promise_each, resume};
 use std::alloc::{AllocError, Global};
 use std::rc::Rc;
 
-// So many slots in a row keep no state, at the most, where an edit passes over them.
+// So many slots in a row keep no state, at the most, where an edit goes through them.
 const SPACING: usize = 32;
 
 /// A theory under way: its slots so far, the state after them, and what is known of how that differs from the state before the edit; and how many slots were passed over since
@@ -26,7 +26,7 @@ pub(crate) struct Growing {
     pub(crate) slots: Vec<Rc<Slot>>,
     pub(crate) state: State,
     pub(crate) drift: Drift,
-    since: usize,
+    pub(crate) since: usize,
 }
 
 /// A theory that was redone.
@@ -59,6 +59,14 @@ pub(crate) fn to_keep(alloc: Global, growing: &Growing) -> Result<Option<State>,
         return Ok(None);
     }
     Ok(Some(growing.state.checkpoint(alloc)?))
+}
+
+/// How many slots were passed over since the last one that keeps its state, after the slot, where so many were before it.
+pub(crate) fn since_after(since: usize, slot: &Slot) -> usize {
+    match slot.kept() {
+        Some(_) => 1,
+        None => since.saturating_add(1),
+    }
 }
 
 /// The first slots of a theory, as they stand.
@@ -158,14 +166,17 @@ fn settle_each(
         if at >= until && growing.drift.is_none() {
             return Ok(at);
         }
+        let kept = to_keep(alloc, growing)?;
         let new = settle(
             alloc,
             runner,
             earlier,
             slot,
+            kept,
             &mut growing.state,
             &mut growing.drift,
         )?;
+        growing.since = since_after(growing.since, &new);
         growing.slots.push(new)?;
     }
     Ok(slots.len())

@@ -2,6 +2,7 @@
 ghost use Rattle.std.specs.Prelude.{◌≡◌, ◌++◌, IfOk, map, string_bytes};
 ghost use Rattle.hol_document.specs.ItemTexts.{item_text, AreItemTexts};
 
+use hol_exec::Room;
 use hol_kernel::{Basis, Item, ItemNode};
 use hol_types::Name;
 use std::alloc::{AllocError, Global};
@@ -19,8 +20,11 @@ fn unsorted_texts(alloc: Global, items: &[Item]) -> Result<Vec<String>, AllocErr
     ensures { IfOk result (λ texts. map string_bytes texts.items ≡ map item_text items.now) }
 {
     let mut texts = Vec::with_capacity(alloc, items.len())?;
+    let mut room = Room::new();
     for item in items {
-        texts.push(item_text(alloc, item)?)?;
+        let text = item_text(alloc, item)?;
+        room.take(text.as_str())?;
+        texts.push(text)?;
     }
     Ok(texts)
 }

@@ -11,7 +11,7 @@ ghost use Rattle.hol_document.specs.Alike.{AreAlike, ImportsAlike, EachImportsAl
 ghost use Rattle.hol_document.specs.Settled.{HaveFollowed, IsEdited, IsPut, FitsAt, edited_texts, rows_beside, rows_of, texts_of};
 ghost use Rattle.hol_document.specs.Slots.{SlotValue, IsSlot, AreSlots, AreStanding, ended_of};
 
-use crate::growing::{Growing, Redone, begun, front, redo, to_keep};
+use crate::growing::{Growing, Redone, begun, front, redo, since_after, to_keep};
 use crate::line::Line;
 use crate::runner::Runner;
 use crate::settle::{is_open_after, run};
@@ -149,6 +149,7 @@ fn insert(
     let slot = run(alloc, runner, earlier, line, kept, &mut growing.state)?;
     let is_open = is_any_open(&before, slot.opened());
     growing.drift.differ(None, Some(slot.outcome()), is_open)?;
+    growing.since = since_after(growing.since, &slot);
     Ok(growing.slots.push(slot)?)
 }
 
@@ -175,6 +176,7 @@ fn replace(
         .drift
         .follow(old.outcome(), slot.outcome(), is_open_after(old, &slot))?;
     runner.leave(old);
+    growing.since = since_after(growing.since, &slot);
     Ok(growing.slots.push(slot)?)
 }
 

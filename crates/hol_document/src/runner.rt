@@ -112,6 +112,13 @@ impl Runner {
         self.cache.put(slot);
     }
 
+    /// Drops the outcomes that have left their slots.
+    pub(crate) fn forget(&mut self)
+        ensures { Stays self.old self.new }
+    {
+        self.cache.clear();
+    }
+
     /// The outcomes of all these slots have left them.
     pub(crate) fn leave_each(&mut self, slots: &[Rc<Slot>])
         requires { (before : List EndedTheory) × (s last : StateValue) × AreSlots (setup_of self.old) before s (map (λ x. x.value) slots.now) last }

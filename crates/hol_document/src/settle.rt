@@ -22,7 +22,7 @@ ghost use Rattle.hol_document.specs.Slots.{IsSlot, ended_of};
 use crate::drift::Drift;
 use crate::line::Line;
 use crate::runner::Runner;
-use crate::slot::{Slot, keeping, kept_again};
+use crate::slot::{Slot, keeping};
 use crate::theory::Theory;
 use hol_exec::{
     Command, CommandKeys, CommandNode, DirectCommand, LocalCommand, Outcome, Parsed, Reads, State,
@@ -328,16 +328,18 @@ fn run_again(
     Ok(new)
 }
 
-/// The slot at the state, which goes on with it: the same where its row stands there as well, else its text is run.
+/// The slot at the state, which goes on with it: the same where its row stands there as well, else its text is run. What is kept, if anything is, is that state.
 pub(crate) fn settle(
     alloc: Global,
     runner: &mut Runner,
     earlier: &[Theory],
     slot: &Rc<Slot>,
+    kept: Option<State>,
     state: &mut State,
     drift: &mut Drift,
 ) -> Result<Rc<Slot>, AllocError>
     requires theories { AreTheories (map ended_of earlier.now) }
+    requires kept { IfSome kept (λ s. s ≡ state.old) }
     requires stood { StoodAlike (setup_of runner.old) drift.old slot.now.value state.old }
     ensures slot { IfOk result (λ new. IsSlot (setup_of runner.old) (map ended_of earlier.now) state.old new.value) }
     ensures text { IfOk result (λ new. new.value.text ≡ slot.now.value.text) }
@@ -346,7 +348,6 @@ pub(crate) fn settle(
         → AreAlike drift.new (after s slot.now.value.row.outcome) (after state.old new.value.row.outcome)) }
     ensures few { RunsAtMost runner.old runner.new result (λ new. counts (Some slot.now.value.row) new.value.row) }
 {
-    let kept = kept_again(alloc, slot, state)?;
     if keeps(slot, state, drift) {
         return go_on(alloc, slot, kept, state, drift);
     }

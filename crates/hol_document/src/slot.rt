@@ -164,17 +164,3 @@ pub(crate) fn keeping(
     }
     Ok(Rc::new(alloc, slot.keeping(kept)?)?)
 }
-
-/// The state, to be kept again where the slot kept the one that was there.
-pub(crate) fn kept_again(
-    alloc: Global,
-    slot: &Slot,
-    state: &State,
-) -> Result<Option<State>, AllocError>
-    ensures { IfOk result (λ kept. IfSome kept (λ s. s ≡ state.now)) }
-{
-    if slot.kept().is_none() {
-        return Ok(None);
-    }
-    Ok(Some(state.checkpoint(alloc)?))
-}

@@ -189,7 +189,7 @@ applying_fits s false setup names tactic given t h = subst (λ (l : LocalValue).
 applying_fits s true setup names tactic given t h =
     subst (λ (l : LocalValue). Fits s.entries l.outcome) (sym h.2)
     (resolving s.entries t setup names (reads_of (Apply tactic) s).goal h.0
-    (resting_past s.entries t setup None tactic (keys_in (parts_of tactic)) (first_refusal (named_refusals setup tactic (values_of s.entries (keys_in (parts_of tactic))))) h.0 h.1))
+    (resting_past s.entries t setup None tactic (keys_in (parts_of tactic)) (first_refusal (named_refusals setup None tactic (values_of s.entries (keys_in (parts_of tactic))))) h.0 h.1))
 
 -- ---- one entry that is made
 
@@ -207,7 +207,7 @@ naming_fits : (s : StateValue) (in_proof : Bool) (setup : SetupValue) (name : Li
 naming_fits s true setup name tactic o t h = subst (Fits s.entries) (sym h) tt
 naming_fits s false setup name tactic o t h =
     subst (Fits s.entries) (sym h.2)
-    (by h.0 (resting_past es t setup (taken_tac setup name reads) tactic (keys_in (parts_of tactic)) (first_refusal (named_refusals setup tactic reads.cited)) h.0 h.1))
+    (by h.0 (resting_past es t setup (taken_tac setup name reads) tactic (keys_in (parts_of tactic)) (first_refusal (named_refusals setup (Some name) tactic reads.cited)) h.0 h.1))
   where
     es : Entries
     es = s.entries

@@ -40,14 +40,14 @@ none_read over other [] read e h = (h.0, none_attempted over other h.0 h.1, h.2)
 none_read over other (q ∷ quoted) read e h = absurd (omega (arith, (Decides-eqb (length (q ∷ quoted)) 0).0 (sym e)))
 
 module _ (setup : SetupValue) (taken : Option KeyValue) (cited : Values) where
-  module _ (tactic : TacText) where
-    pub unknown_theorem : (name : List ℕ) (r : ResolutionValue) → first_unknown cited ≡ Some name → r ≡ Unresolved refusal.UnknownTheorem name → IsResolution setup taken tactic cited r
+  module _ (own : Option (List ℕ)) (tactic : TacText) where
+    pub unknown_theorem : (name : List ℕ) (r : ResolutionValue) → first_unknown cited ≡ Some name → r ≡ Unresolved refusal.UnknownTheorem name → IsResolution setup own taken tactic cited r
     unknown_theorem name r e f = rw e f
 
-    pub unknown_tac : (name : List ℕ) (r : ResolutionValue) → first_unknown cited ≡ None → first_unfit setup (calls_in (parts_of tactic)) cited ≡ Some name → r ≡ Unresolved refusal.UnknownTac name → IsResolution setup taken tactic cited r
+    pub unknown_tac : (name : List ℕ) (r : ResolutionValue) → first_unknown cited ≡ None → first_unfit setup own (calls_in (parts_of tactic)) cited ≡ Some name → r ≡ Unresolved refusal.UnknownTac name → IsResolution setup own taken tactic cited r
     unknown_tac name r e f g = rw (e, f) g
 
-    pub fitting : (r : ResolutionValue) → first_unknown cited ≡ None → first_unfit setup (calls_in (parts_of tactic)) cited ≡ None → IsResolvedFitting setup taken tactic cited r → IsResolution setup taken tactic cited r
+    pub fitting : (r : ResolutionValue) → first_unknown cited ≡ None → first_unfit setup own (calls_in (parts_of tactic)) cited ≡ None → IsResolvedFitting setup taken tactic cited r → IsResolution setup own taken tactic cited r
     fitting r e f h = rw (e, f) h
 
   -- ---- past the readings

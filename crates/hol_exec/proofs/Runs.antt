@@ -1,5 +1,5 @@
 -- Outcomes, from what the steps of a command found.
-use Rattle.std.specs.Prelude.{◌≡◌, ℕ, Bool, true, false, List, Option, None, Result, Ok, Err, IfOk}
+use Rattle.std.specs.Prelude.{◌≡◌, ℕ, Bool, true, false, List, Option, Some, None, Result, Ok, Err, IfOk}
 use Rattle.hol_terms.specs.Nameless.{Nameless}
 use Rattle.hol_notation_terms.specs.Text.{QuotationText}
 use Rattle.hol_notation_tactics.specs.Text.{TacText}
@@ -28,13 +28,13 @@ opens_by in_proof name q reads reading outcome e h f =
     rw e (reading, h, f)
 
 pub applies_by : (in_proof : Bool) (setup : SetupValue) (names : List (List ℕ)) (tactic : TacText) (reads : ReadsValue) (resolution : ResolutionValue) (given : LocalValue) →
-    in_proof ≡ true → IsResolution setup None tactic reads.cited resolution → given ≡ resolved_outcome setup names reads.goal resolution → IsApplying in_proof setup names tactic reads given
+    in_proof ≡ true → IsResolution setup None None tactic reads.cited resolution → given ≡ resolved_outcome setup names reads.goal resolution → IsApplying in_proof setup names tactic reads given
 applies_by in_proof setup names tactic reads resolution given e h f = rw e (resolution, h, f)
 
 pub names_by : (in_proof : Bool) (setup : SetupValue) (name : List ℕ) (tactic : TacText) (reads : ReadsValue) (taken : Option KeyValue) (resolution : ResolutionValue) (outcome : OutcomeValue) →
-    in_proof ≡ false → taken ≡ taken_tac setup name reads → IsResolution setup taken tactic reads.cited resolution → outcome ≡ names_resolved setup name tactic reads.cited resolution → IsNaming in_proof setup name tactic reads outcome
+    in_proof ≡ false → taken ≡ taken_tac setup name reads → IsResolution setup (Some name) taken tactic reads.cited resolution → outcome ≡ names_resolved setup name tactic reads.cited resolution → IsNaming in_proof setup name tactic reads outcome
 names_by in_proof setup name tactic reads taken resolution outcome e is h f =
-    rw e (resolution, subst (λ (k : Option KeyValue). IsResolution setup k tactic reads.cited resolution) is h, f)
+    rw e (resolution, subst (λ (k : Option KeyValue). IsResolution setup (Some name) k tactic reads.cited resolution) is h, f)
 
 -- the same where what is read is of a case
 pub opens_at : (in_proof : Bool) (name : List ℕ) (q : QuotationText) (reads : ReadsValue) (read reading : ReadingValue Nameless) (outcome : OutcomeValue) →

@@ -77,13 +77,13 @@ one_opening false name quotation reads a b p q =
 one_applying : (in_proof : Bool) (setup : SetupValue) (names : List (List ℕ)) (tactic : TacText) (reads : ReadsValue) (a b : LocalValue) → IsApplying in_proof setup names tactic reads a → IsApplying in_proof setup names tactic reads b → a ≡ b
 one_applying false setup names tactic reads a b p q = p ∙ sym q
 one_applying true setup names tactic reads a b p q =
-    p.2 ∙ ap (resolved_outcome setup names reads.goal) (one_past setup None reads.cited tactic (first_refusal (named_refusals setup tactic reads.cited)) p.0 q.0 p.1 q.1) ∙ sym q.2
+    p.2 ∙ ap (resolved_outcome setup names reads.goal) (one_past setup None reads.cited tactic (first_refusal (named_refusals setup None tactic reads.cited)) p.0 q.0 p.1 q.1) ∙ sym q.2
 
 one_naming : (in_proof : Bool) (setup : SetupValue) (name : List ℕ) (tactic : TacText) (reads : ReadsValue) (a b : OutcomeValue) → IsNaming in_proof setup name tactic reads a → IsNaming in_proof setup name tactic reads b → a ≡ b
 one_naming true setup name tactic reads a b p q = p ∙ sym q
 one_naming false setup name tactic reads a b p q =
     p.2
-    ∙ ap (names_resolved setup name tactic reads.cited) (one_past setup (taken_tac setup name reads) reads.cited tactic (first_refusal (named_refusals setup tactic reads.cited)) p.0 q.0 p.1 q.1)
+    ∙ ap (names_resolved setup name tactic reads.cited) (one_past setup (taken_tac setup name reads) reads.cited tactic (first_refusal (named_refusals setup (Some name) tactic reads.cited)) p.0 q.0 p.1 q.1)
     ∙ sym q.2
 
 -- of one outcome, where nothing was tested for both

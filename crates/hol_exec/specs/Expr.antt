@@ -1,6 +1,6 @@
 -- Expressions of functions on goals, as they are written, and what they resolve to. How they run is hol_combine's.
 -- Sources: the tactics and tacticals of the HOL Light Reference Manual; the order of refusals is this project's.
-use Rattle.std.specs.Prelude.{◌≡◌, ℕ, List, [], ◌∷◌, Bool, false, cond, decimal, Option, Some, None, is_some, Result, Ok, Err}
+use Rattle.std.specs.Prelude.{◌≡◌, ℕ, List, [], ◌∷◌, Bool, false, ◌&&◌, not, bytes_eq, cond, decimal, Option, Some, None, is_some, Result, Ok, Err}
 use Rattle.hol_terms.specs.Nameless.{Nameless, nameless_type}
 use Rattle.hol_formulas.specs.Equation.{bool_type}
 use Rattle.hol_kernel.specs.Items.{Items}
@@ -40,10 +40,16 @@ pub data ResolutionValue : Type 0 where
   Resolved : ExprValue → Items → ReadingsValue → ResolutionValue
   Unresolved : RefusalKind → List ℕ → ResolutionValue
 
--- the name of the first call whose name stands for nothing, or whose arguments aren't of its kind
-abbrev pub first_unfit : SetupValue → List (Role × CallText) → Values → Option (List ℕ)
-first_unfit setup [] cited = None
-first_unfit setup ((role, call) ∷ calls) cited = cond (is_some (called setup.table role call cited)) (first_unfit setup calls cited) (Some call.name)
+-- whether a name is that of the expression which the command itself names, if it names one
+abbrev pub is_own : Option (List ℕ) → List ℕ → Bool
+is_own None name = false
+is_own (Some own) name = bytes_eq own name
+
+-- the name of the first call whose name is that, or stands for nothing, or whose arguments aren't of its kind
+abbrev pub first_unfit : SetupValue → Option (List ℕ) → List (Role × CallText) → Values → Option (List ℕ)
+first_unfit setup own [] cited = None
+first_unfit setup own ((role, call) ∷ calls) cited =
+    cond (not (is_own own call.name) && is_some (called setup.table role call cited)) (first_unfit setup own calls cited) (Some call.name)
 
 -- a name is refused
 abbrev pub refused_name : RefusalKind → Option (List ℕ) → Option (RefusalKind × List ℕ)
@@ -51,9 +57,9 @@ refused_name kind None = None
 refused_name kind (Some name) = Some (kind, name)
 
 -- what is refused of the names, in order: an unknown theorem; a call that doesn't fit
-abbrev pub named_refusals : SetupValue → TacText → Values → List (Option (RefusalKind × List ℕ))
-named_refusals setup tactic cited =
-    refused_name refusal.UnknownTheorem (first_unknown cited) ∷ refused_name refusal.UnknownTac (first_unfit setup (calls_in (parts_of tactic)) cited) ∷ []
+abbrev pub named_refusals : SetupValue → Option (List ℕ) → TacText → Values → List (Option (RefusalKind × List ℕ))
+named_refusals setup own tactic cited =
+    refused_name refusal.UnknownTheorem (first_unknown cited) ∷ refused_name refusal.UnknownTac (first_unfit setup own (calls_in (parts_of tactic)) cited) ∷ []
 
 abbrev pub first_refusal : List (Option (RefusalKind × List ℕ)) → Option (RefusalKind × List ℕ)
 first_refusal [] = None
@@ -208,6 +214,6 @@ abbrev pub IsResolvedPast : SetupValue → Option KeyValue → TacText → Value
 IsResolvedPast setup taken tactic cited (Some refused) resolution = resolution ≡ refused_resolution refused
 IsResolvedPast setup taken tactic cited None resolution = IsResolvedFitting setup taken tactic cited resolution
 
--- what is written comes to this, over the values of what it cites; a key that the command makes may be taken
-abbrev pub IsResolution : SetupValue → Option KeyValue → TacText → Values → ResolutionValue → Type 0
-IsResolution setup taken tactic cited resolution = IsResolvedPast setup taken tactic cited (first_refusal (named_refusals setup tactic cited)) resolution
+-- what is written comes to this, over the values of what it cites; the command may name an expression, and a key that it makes may be taken
+abbrev pub IsResolution : SetupValue → Option (List ℕ) → Option KeyValue → TacText → Values → ResolutionValue → Type 0
+IsResolution setup own taken tactic cited resolution = IsResolvedPast setup taken tactic cited (first_refusal (named_refusals setup own tactic cited)) resolution

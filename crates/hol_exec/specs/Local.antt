@@ -97,7 +97,7 @@ resolved_outcome setup names goal (Unresolved kind arg) = untested (Refuses kind
 abbrev pub IsApplying : Bool → SetupValue → List (List ℕ) → TacText → ReadsValue → LocalValue → Type 0
 IsApplying false setup names tactic reads given = given ≡ untested (Refuses refusal.NoProofOpen [])
 IsApplying true setup names tactic reads given =
-    (resolution : ResolutionValue) × IsResolution setup None tactic reads.cited resolution × (given ≡ resolved_outcome setup names reads.goal resolution)
+    (resolution : ResolutionValue) × IsResolution setup None None tactic reads.cited resolution × (given ≡ resolved_outcome setup names reads.goal resolution)
 
 -- ---- `qed`: no proof open; goals remain
 

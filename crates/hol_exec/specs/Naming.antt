@@ -37,5 +37,5 @@ names_resolved setup name tactic cited (Unresolved kind arg) = Refuses kind arg
 abbrev pub IsNaming : Bool → SetupValue → List ℕ → TacText → ReadsValue → OutcomeValue → Type 0
 IsNaming true setup name tactic reads outcome = outcome ≡ Refuses refusal.InProof []
 IsNaming false setup name tactic reads outcome =
-    (resolution : ResolutionValue) × IsResolution setup (taken_tac setup name reads) tactic reads.cited resolution
+    (resolution : ResolutionValue) × IsResolution setup (Some name) (taken_tac setup name reads) tactic reads.cited resolution
     × (outcome ≡ names_resolved setup name tactic reads.cited resolution)

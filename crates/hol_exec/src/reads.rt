@@ -6,7 +6,7 @@ ghost use Rattle.hol_theory.specs.Entry.{entry_at};
 ghost use Rattle.hol_theory.specs.Key.{key_eq};
 ghost use Rattle.hol_exec.specs.Standing.{first_taken, first_unknown};
 ghost use Rattle.hol_notation_commands.specs.CommandView.{local_text};
-ghost use Rattle.hol_exec.specs.SameReads.{same_reads, size_read};
+ghost use Rattle.hol_exec.specs.SameReads.{same_reads};
 ghost use Rattle.hol_exec.specs.Valid.{AreOfTheory};
 ghost use Rattle.hol_exec.specs.ChangedKeys.{AreApart};
 ghost use Rattle.hol_exec.specs.Keys.{cited_keys, made_keys, command_keys};
@@ -17,6 +17,7 @@ mod closing;
 mod command_keys;
 mod keys;
 mod listed_keys;
+mod mark;
 mod names;
 mod same;
 mod standing;
@@ -24,6 +25,7 @@ mod standing;
 use crate::reads::same::same_options;
 use crate::reads::standing::{is_standing, is_unknown};
 use crate::state::State;
+use crate::weight::values_weight;
 pub use changed_keys::ChangedKeys;
 pub(crate) use closing::Closing;
 pub use command_keys::CommandKeys;
@@ -32,9 +34,9 @@ use hol_notation_commands::LocalCommand;
 use hol_theory::{Key, Value};
 use hol_types::NameFilter;
 pub(crate) use keys::add_parts;
+pub use mark::ReadsMark;
 pub(crate) use same::{Same, same_each};
 use std::alloc::{AllocError, Global};
-use std::hash::{Hash, Hasher};
 use std::marker::Model;
 
 /// What a command reads of a state: with the command it determines the outcome.
@@ -62,39 +64,6 @@ impl Model for Reads {
     ghost view = { λ r. record { cited = r.cited.items; made = r.made.items; in_proof = r.in_proof; goal = r.goal; closing = r.closing } };
 
     ghost invariant = { λ r. AreOfTheory r.cited.items r.made.items × HasNames r.names.bits (keys_of r.cited.items) × HasNames r.names.bits (keys_of r.made.items) };
-}
-
-impl PartialEq for Reads {
-    ghost use Rattle.hol_exec.specs.SameReads.{same_reads, same_reads_partial_laws};
-
-    ghost eq = { same_reads };
-
-    ghost laws = { same_reads_partial_laws };
-
-    fn eq(&self, other: &Reads) -> bool {
-        self.same(other)
-    }
-}
-
-impl Eq for Reads {
-    ghost use Rattle.hol_exec.specs.SameReads.{same_reads_laws};
-
-    ghost laws = { same_reads_laws };
-}
-
-// Reads of the same text mostly differ in their goals, or in the values of their keys: the hash is of what costs nothing to ask, and tells goals of different sizes apart.
-impl Hash for Reads {
-    ghost use Rattle.hol_exec.specs.SameReads.{hashed, reads_fed};
-
-    ghost hash_input = { hashed };
-
-    ghost respects_eq = { reads_fed };
-
-    fn hash<H: Hasher>(&self, state: &mut H) {
-        self.in_proof.hash(state);
-        self.cited.len().hash(state);
-        self.size_read().hash(state);
-    }
 }
 
 impl Reads {
@@ -176,14 +145,31 @@ impl Reads {
         are_apart(&self.cited, changes) && are_apart(&self.made, changes)
     }
 
-    // The size of the goal, or 20,001 for more; 0 where none is read.
-    fn size_read(&self) -> u32
-        ensures { result ≡ size_read self.now.goal }
-    {
-        match &self.goal {
+    /// What tells it from most others at once.
+    pub fn mark(&self) -> ReadsMark {
+        ReadsMark::of(
+            self.in_proof,
+            &self.cited,
+            &self.made,
+            self.goal(),
+            self.closing(),
+        )
+    }
+
+    /// How much it holds, in nodes of terms, up to 2^32 - 1. What it shares counts too.
+    pub fn weight(&self) -> u32 {
+        let goal = match &self.goal {
             Some(goal) => goal.size(),
             None => 0,
-        }
+        };
+        let closing = match &self.closing {
+            Some(closing) => closing.weight(),
+            None => 0,
+        };
+        values_weight(&self.cited)
+            .saturating_add(values_weight(&self.made))
+            .saturating_add(goal)
+            .saturating_add(closing)
     }
 
     /// With what it cites and makes, it is of some theory.

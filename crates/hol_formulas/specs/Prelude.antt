@@ -70,7 +70,7 @@ paired p q = abs (codes "f", connective_type) (comb (comb (var (codes "f", conne
 abbrev pub both : Named → Named → Named
 both p q = mk_eq (fun_type connective_type bool_type) (paired p q) (paired mk_truth mk_truth)
 
--- \p q. .., of two mk_truth values
+-- \p q. .., of two truth values
 abbrev pub of_two : (Named → Named → Named) → Named
 of_two f = abs (boolean (codes "p")) (abs (boolean (codes "q")) (f (var (boolean (codes "p"))) (var (boolean (codes "q")))))
 

@@ -1,8 +1,8 @@
-//! Names of constants: which stand, also over copies that go on apart; and those of a theory and its checkpoint.
+//! Names of constants: which stand, also over copies that go on apart; and theories: their names, their checkpoints, and what they refuse.
 use hol_formulas::bool_type;
 use hol_goal::Names;
 use hol_kernel::Basis;
-use hol_theory::{Env, new_constant, new_type};
+use hol_theory::{Env, EnvError, Key, Kind, new_constant, new_type};
 use hol_types::Name;
 use std::alloc::{AllocError, Global};
 use std::test::Fail;
@@ -86,11 +86,21 @@ fn declare(alloc: Global, env: &mut Env, name: &str) -> Result<(), Fail> {
     Ok(())
 }
 
+// Adds a type constructor of this name and arity to the theory, or tells why not.
+fn added_type(
+    alloc: Global,
+    env: &mut Env,
+    name: &str,
+    arity: u32,
+) -> Result<Result<(), EnvError>, Fail> {
+    let name = Name::new(alloc, name)?;
+    let (key, value) = new_type(alloc, &Basis::empty(alloc)?, &name, arity)?;
+    Ok(env.add(&key, &value))
+}
+
 // The same of a type constructor without arguments.
 fn declare_type(alloc: Global, env: &mut Env, name: &str) -> Result<(), Fail> {
-    let name = Name::new(alloc, name)?;
-    let (key, value) = new_type(alloc, &Basis::empty(alloc)?, &name, 0)?;
-    env.add(&key, &value)?;
+    added_type(alloc, env, name, 0)??;
     Ok(())
 }
 
@@ -151,5 +161,87 @@ fn are_names_of_theories(alloc: Global) -> Result<bool, Fail> {
 #[test]
 fn theories_have_names(rt: HostRuntime) -> Result<(), Fail> {
     assert!(rt; are_names_of_theories(rt.alloc())?);
+    Ok(())
+}
+
+// The theory of a hundred type constructors.
+fn long(alloc: Global) -> Result<Env, Fail> {
+    let mut env = Env::new(alloc);
+    for number in 0..100 {
+        let text = format!(in alloc; "t{number}")?;
+        declare_type(alloc, &mut env, text.as_str())?;
+    }
+    Ok(env)
+}
+
+// Whether the entries of the one are the first ones of the other.
+fn begins(env: &Env, checkpoint: &Env) -> bool {
+    if env.len() < checkpoint.len() {
+        return false;
+    }
+    for i in 0..checkpoint.len() {
+        let (key, value) = env.entry(i);
+        let (own, kept) = checkpoint.entry(i);
+        if key != own || !value.same(kept) {
+            return false;
+        }
+    }
+    true
+}
+
+// Whether a checkpoint keeps its hundred entries while the theory gets one more.
+fn is_kept(alloc: Global) -> Result<bool, Fail> {
+    let mut env = long(alloc)?;
+    let checkpoint = env.checkpoint()?;
+    declare_type(alloc, &mut env, "t")?;
+    let missing = checkpoint.get(&Key::new(alloc, Kind::Type, "t")?).is_none();
+    Ok(missing && checkpoint.len() == 100 && env.len() == 101 && begins(&env, &checkpoint))
+}
+
+#[test]
+fn checkpoints_keep_their_entries(rt: HostRuntime) -> Result<(), Fail> {
+    assert!(rt; is_kept(rt.alloc())?);
+    Ok(())
+}
+
+// Whether nothing is added under a key that has an entry.
+fn is_taken(alloc: Global, env: &mut Env) -> Result<bool, Fail> {
+    match added_type(alloc, env, "t", 1)? {
+        Err(EnvError::Taken(key)) => {
+            Ok(key == Key::new(alloc, Kind::Type, "t")? && env.len() == 2)
+        }
+        Err(EnvError::ImportClash(_)) => Ok(false),
+        Err(EnvError::Memory) => Err(AllocError.into()),
+        Ok(()) => Ok(false),
+    }
+}
+
+// Whether no theory is imported that has another entry under a key.
+fn is_clash(alloc: Global, env: &mut Env, other: &Env) -> Result<bool, Fail> {
+    match env.import(other) {
+        Err(EnvError::ImportClash(key)) => {
+            Ok(key == Key::new(alloc, Kind::Type, "t")? && env.len() == 2)
+        }
+        Err(EnvError::Taken(_)) => Ok(false),
+        Err(EnvError::Memory) => Err(AllocError.into()),
+        Ok(()) => Ok(false),
+    }
+}
+
+fn is_clash_met(alloc: Global, env: &mut Env) -> Result<bool, Fail> {
+    let mut other = Env::new(alloc);
+    declare_type(alloc, &mut other, "u")?;
+    added_type(alloc, &mut other, "t", 1)??;
+    is_clash(alloc, env, &other)
+}
+
+fn are_refused(alloc: Global) -> Result<bool, Fail> {
+    let mut env = begun(alloc)?;
+    Ok(is_taken(alloc, &mut env)? && is_clash_met(alloc, &mut env)?)
+}
+
+#[test]
+fn other_entries_under_a_key_are_refused(rt: HostRuntime) -> Result<(), Fail> {
+    assert!(rt; are_refused(rt.alloc())?);
     Ok(())
 }

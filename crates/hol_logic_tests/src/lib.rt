@@ -3,10 +3,14 @@
 #![tactic(auto)]
 
 #[cfg(test)]
+mod bases_tests;
+#[cfg(test)]
 mod calls_tests;
 #[cfg(test)]
 mod rules_tests;
 #[cfg(test)]
 mod shared_tests;
+#[cfg(test)]
+mod substitution_tests;
 #[cfg(test)]
 mod written;

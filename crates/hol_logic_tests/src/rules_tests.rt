@@ -10,10 +10,16 @@ use hol_bool::{
 use hol_equal::{alpha, ap_term, ap_thm, beta_conv, prove_hyp, subst};
 use hol_kernel::{Basis, Thm};
 use hol_terms::Term;
+use hol_types::TyNode;
 use std::fmt::Debug;
 use std::test::Fail;
 
-const ROWS: &str = r"TRANS of q:bool = p | p:bool = r is p:bool = r, q:bool = p |- q:bool = r
+const ROWS: &str = r"REFL p:bool is |- p:bool = p
+REFL x:foo is Refused(Refl)
+ASSUME p:bool is p:bool |- p:bool
+ASSUME f:bool->bool is Refused(Assume)
+ASSUME x:foo = x is Refused(Assume)
+TRANS of q:bool = p | p:bool = r is p:bool = r, q:bool = p |- q:bool = r
 TRANS of p:bool = q | p:bool = q is Refused(Trans)
 MK_COMB of f:bool->bool = f | p:bool = q is p:bool = q, f:bool->bool = f |- (f:bool->bool) p = f q
 MK_COMB of f:bool->bool = f | f:bool->bool = f is Refused(MkComb)
@@ -24,6 +30,8 @@ BETA (\x:bool. x) y is Refused(Beta)
 EQ_MP of p:bool = q | p:bool is p:bool, p:bool = q |- q:bool
 EQ_MP of p:bool = q | q:bool is Refused(EqMp)
 DEDUCT_ANTISYM_RULE of p:bool | p:bool is |- p:bool = p
+INST_TYPE p:bool, y:A of x:A = y is x:bool = y |- x:bool = y
+INST_TYPE z:foo, y:A of x:A = y is Refused(InstType)
 INST y:bool, x:bool of x:bool is y:bool |- y:bool
 INST y:A, x:bool of x:bool is Refused(Inst)
 AP_TERM f:bool->bool of q:bool = p is q:bool = p |- (f:bool->bool) q = f p
@@ -156,6 +164,17 @@ impl Row<'_> {
             "DISJ1" => self.gives(disj1(alloc, a, t)),
             "DISJ2" => self.gives(disj2(alloc, t, a)),
             "CONTR" => self.gives(contr(alloc, t, a)),
+            _ => self.over(a.basis(), t),
+        }
+    }
+
+    fn over(&self, basis: &Basis, t: &Term) -> Result<bool, Fail> {
+        let alloc = self.written.alloc;
+        match self.rule {
+            "REFL" => self.gives(Thm::refl(alloc, basis, t)),
+            "ASSUME" => self.gives(Thm::assume(alloc, basis, t)),
+            "BETA" => self.gives(Thm::beta(alloc, basis, t)),
+            "BETA_CONV" => self.gives(beta_conv(alloc, basis, t)),
             _ => Ok(false),
         }
     }
@@ -166,8 +185,6 @@ impl Row<'_> {
         let alloc = self.written.alloc;
         match self.rule {
             "ABS" => self.gives(Thm::abs(alloc, t, a)),
-            "BETA" => self.gives(Thm::beta(alloc, a.basis(), t)),
-            "BETA_CONV" => self.gives(beta_conv(alloc, a.basis(), t)),
             "AP_TERM" => self.gives(ap_term(alloc, t, a)),
             "AP_THM" => self.gives(ap_thm(alloc, a, t)),
             "CHOOSE" => self.gives(choose(alloc, t, a, b)),
@@ -180,12 +197,22 @@ impl Row<'_> {
         self.gives(Thm::inst(self.written.alloc, &pairs, a))
     }
 
+    // By the types of the two, the second of which is a type variable.
+    fn with_types(&self, new: &Term, old: &Term, a: &Thm) -> Result<bool, Fail> {
+        let TyNode::Var(name) = old.type_of().node() else {
+            return Ok(false);
+        };
+        let pairs = [(new.type_of().copy()?, name.copy()?)];
+        self.gives(Thm::inst_type(self.written.alloc, &pairs, a))
+    }
+
     fn with_two(&self, s: &Term, t: &Term, a: &Thm, b: &Thm) -> Result<bool, Fail>
         requires second { a.now.basis ≡ b.now.basis }
     {
         let alloc = self.written.alloc;
         match self.rule {
             "INST" => self.with_pair(s, t, a),
+            "INST_TYPE" => self.with_types(s, t, a),
             "ALPHA" => self.gives(alpha(alloc, a.basis(), s, t)),
             "EXISTS" => self.gives(exists(alloc, s, t, a)),
             "SUBST" => self.gives(subst(alloc, a, s, t, b)),

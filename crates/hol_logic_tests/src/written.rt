@@ -8,7 +8,7 @@ use hol_types::{Name, Ty};
 use std::alloc::{AllocError, Global};
 use std::test::Fail;
 
-/// What a text may name: the constants and the type constructors of the prelude.
+/// What a text may name: the constants and the type constructors of the prelude, and a type `foo`, which stands over no items.
 #[derive(Drop)]
 pub(crate) struct Written {
     pub(crate) alloc: Global,
@@ -19,7 +19,8 @@ pub(crate) struct Written {
 impl Written {
     pub(crate) fn new(alloc: Global) -> Result<Written, AllocError> {
         let constants = prelude_constants(alloc)?;
-        let types = prelude_types(alloc)?;
+        let mut types = prelude_types(alloc)?;
+        types.push((Name::new(alloc, "foo")?, 0))?;
         Ok(Written {
             alloc,
             constants,

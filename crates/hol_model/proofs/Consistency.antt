@@ -1,27 +1,18 @@
--- F isn't derived: in the finite universe without INFINITY_AX, in an infinite one not at all.
-use Rattle.std.proofs.Common.{◌≡◌, inl, inr, List, [], sym, subst, Bool, true, false}
+-- F isn't derived over legal items: in the finite universe without INFINITY_AX, in an infinite one not at all.
+use Rattle.std.proofs.Common.{◌≡◌, inl, inr, List, sym, subst, true, false}
 use Rattle.std.proofs.lemmas.Bool.{or_parts}
 use Rattle.hol_formulas.specs.Formula.{falsity}
-use Rattle.hol_kernel.specs.Item.{Item, declared_axiom}
-use Rattle.hol_kernel.specs.Items.{Items, no_items, item_set}
+use Rattle.hol_kernel.specs.Item.{Item}
+use Rattle.hol_kernel.specs.Items.{Items, item_set}
 use Rattle.hol_kernel.specs.Sequent.{Sequent, no_hyps}
 use Rattle.hol_kernel.specs.Legal.{IsLegal}
 use Rattle.hol_kernel.specs.Theorem.{Theorem, theorem_on, theorem_over, IsTheorem}
 use Rattle.hol_kernel.specs.Derivation.{Derives}
-use Rattle.hol_kernel.proofs.Members.{not_in_empty}
-use Rattle.hol_kernel.proofs.ItemOrder.{total, only}
 use Rattle.hol_model.specs.Infinity.{uses_infinity, members_use_infinity, theorem_uses_infinity, StatesFalsity, HasNoAxiom}
 use Rattle.hol_model.specs.Universe.{UniverseOf, IsInfinite}
 use Rattle.hol_model.proofs.Finite.{finite}
 use Rattle.hol_model.proofs.Legal.{never_derived}
-
-unless_false : (b : Bool) → (b ≡ false → ⊥) → b ≡ true
-unless_false true h = λ _. true
-unless_false false h = absurd (h (λ _. false))
-
-pub prelude_consistent : (t : Derives no_items no_hyps falsity) → uses_infinity no_items no_hyps falsity t ≡ true
-prelude_consistent t =
-    unless_false (uses_infinity no_items no_hyps falsity t) (λ e. never_derived finite [] tt (λ n p h. not_in_empty total only (declared_axiom n p) h) (inl (λ _. false)) t (inl e))
+use Rattle.hol_model.proofs.PreludeConsistent.{unless_false}
 
 pub legal_consistent :
     (order : List Item) (legal : IsLegal order) → HasNoAxiom (item_set order) → members_use_infinity order legal ≡ false → (t : Derives (item_set order) no_hyps falsity) →

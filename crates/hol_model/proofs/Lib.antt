@@ -15,12 +15,15 @@ pub mod Extended
 pub mod TypeNames
 pub mod NewConstants
 pub mod NewTypes
+pub mod Modelled
 pub mod Legal
 pub mod Denotations
 pub mod Tables
 pub mod Finite
+pub mod PreludeConsistent
 pub mod Consistency
 pub mod WellTyped
 pub mod ItemsTyped
 pub mod NamesOnce
 pub mod Orders
+pub mod MadeNodes

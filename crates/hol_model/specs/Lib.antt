@@ -3,3 +3,5 @@ pub mod Leaves
 pub mod Universe
 pub mod WellTyped
 pub mod Names
+pub mod Pairs
+pub mod LastRule

@@ -4,6 +4,7 @@
 mod definitions;
 mod infinite;
 mod laws;
+mod nodes;
 mod theorems;
 
 pub use definitions::{
@@ -15,4 +16,5 @@ pub use laws::{
     definitions_need_infinity_for_falsity, false_theorem_needs_infinity, falsity_needs_infinity,
     infinity_is_one_leaf, rules_use_what_premises_use,
 };
+pub use nodes::{derivations_end_with_rules, nodes_are_made_by_rules};
 pub use theorems::false_thm_needs_infinity;

@@ -10,7 +10,7 @@ use hol_terms::{Term, Variable};
 use std::alloc::{AllocError, Global};
 
 /// The goal as it is shown, of the assumptions and the conclusion: a function of their nameless terms. What was shown before and comes
-/// again is not written again.
+/// again is not written again. Texts for which no room is left in the reply find no memory.
 pub fn show_goal<'a>(
     alloc: Global,
     asl: &'a [Term],
@@ -21,7 +21,7 @@ pub fn show_goal<'a>(
 {
     let assumptions = before.assumption_texts(alloc, asl)?;
     let variables = before.goal_variables(alloc, asl, concl)?;
-    let free = variable_texts(alloc, &variables)?;
+    let free = variable_texts(alloc, &variables, before)?;
     let goal = before.conclusion_text(alloc, concl)?;
     Ok(ShownGoal {
         asl: assumptions,
@@ -30,12 +30,18 @@ pub fn show_goal<'a>(
     })
 }
 
-fn variable_texts(alloc: Global, variables: &[Variable]) -> Result<Vec<String>, AllocError>
+fn variable_texts(
+    alloc: Global,
+    variables: &[Variable],
+    before: &mut ShownBefore,
+) -> Result<Vec<String>, AllocError>
     ensures { IfOk result (λ texts. map string_bytes texts.items ≡ map variable_text variables.now) }
 {
     let mut texts = Vec::with_capacity(alloc, variables.len())?;
     for v in variables {
-        texts.push(variable_text(alloc, v)?)?;
+        let text = variable_text(alloc, v)?;
+        before.take(text.as_str())?;
+        texts.push(text)?;
     }
     Ok(texts)
 }

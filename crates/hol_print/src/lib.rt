@@ -10,6 +10,7 @@ mod laws;
 mod names;
 mod notation;
 mod primed_name;
+mod room;
 mod shape;
 mod shown_before;
 mod shown_goal;
@@ -21,6 +22,7 @@ mod type_text;
 
 pub use goal_text::show_goal;
 pub use laws::shown_names_have_fewest_primes;
+pub use room::Room;
 pub use shown_before::ShownBefore;
 pub use shown_goal::ShownGoal;
 pub use term_text::show_term;

@@ -3,6 +3,7 @@ ghost use Rattle.std.specs.Prelude.{◌≡◌, ◌≢◌, ◌++◌, ℕ, OnOk, M
 ghost use Rattle.hol_terms.specs.Nameless.{base_of};
 ghost use Rattle.hol_terms.specs.Primes.{with_primes};
 
+use crate::room::put_name;
 use hol_terms::base_name;
 use std::alloc::AllocError;
 use std::marker::Model;
@@ -75,7 +76,7 @@ impl<'a> PrimedName<'a> {
     pub(crate) fn put(&self, out: &mut String) -> Result<(), AllocError>
         ensures { OnOk result (string_bytes out.new ≡ string_bytes out.old ++ self.now) }
     {
-        out.push_str(self.base)?;
+        put_name(out, self.base)?;
         put_primes(self.primes, out)
     }
 }
@@ -86,7 +87,7 @@ fn put_primes(primes: usize, out: &mut String) -> Result<(), AllocError>
     ensures { OnOk result (string_bytes out.new ≡ with_primes primes (string_bytes out.old)) }
 {
     for _i in 0..primes {
-        out.push_str("'")?;
+        put_name(out, "'")?;
     }
     Ok(())
 }

@@ -5,6 +5,7 @@ ghost use Rattle.hol_print.specs.ShowTerm.{show};
 ghost use Rattle.hol_print.specs.ShowGoal.{goal_variables, put_terms};
 
 use crate::free_variables::put_each;
+use crate::room::Room;
 use crate::shown_terms::ShownTerms;
 use hol_terms::{Term, Variable};
 use std::alloc::{AllocError, Global};
@@ -17,10 +18,12 @@ pub struct ShownBefore<'a> {
     // the assumptions of the last goal
     last: &'a [Term],
     common: CommonAssumptions<'a>,
+    // of all texts, those that were told before too
+    room: Room,
 }
 
 impl<'a> ShownBefore<'a> {
-    /// Nothing yet.
+    /// Nothing yet; the texts of all of them have the room of one reply.
     pub fn new(alloc: Global) -> ShownBefore<'a> {
         ShownBefore {
             terms: ShownTerms::new(alloc),
@@ -29,7 +32,13 @@ impl<'a> ShownBefore<'a> {
                 assumptions: &[],
                 free: Vec::new(alloc),
             },
+            room: Room::new(),
         }
+    }
+
+    /// Takes the room of a text that is told beside those of terms.
+    pub(crate) fn take(&mut self, text: &str) -> Result<(), AllocError> {
+        self.room.take(text)
     }
 
     /// The text of a goal's conclusion.
@@ -40,7 +49,9 @@ impl<'a> ShownBefore<'a> {
     ) -> Result<String, AllocError>
         ensures { IfOk result (λ text. string_bytes text ≡ show (nameless [] concl.now)) }
     {
-        self.terms.text(alloc, concl, 0)
+        let text = self.terms.text(alloc, concl, 0)?;
+        self.room.take(text.as_str())?;
+        Ok(text)
     }
 
     /// The texts of a goal's assumptions, the newest first.
@@ -53,7 +64,9 @@ impl<'a> ShownBefore<'a> {
     {
         let mut texts = Vec::with_capacity(alloc, asl.len())?;
         for (i, t) in asl.iter().enumerate() {
-            texts.push(self.terms.text(alloc, t, asl.len() - i)?)?;
+            let text = self.terms.text(alloc, t, asl.len() - i)?;
+            self.room.take(text.as_str())?;
+            texts.push(text)?;
         }
         Ok(texts)
     }

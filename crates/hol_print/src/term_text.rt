@@ -9,6 +9,7 @@ ghost use Rattle.hol_print.specs.ShowTerm.{show, text, before, after, opening, s
 use crate::bare::Bare;
 use crate::names::shown_name;
 use crate::notation::is_operator;
+use crate::room::put_name;
 use crate::shape::Shape;
 use crate::shown_names::ShownNames;
 use crate::site::Site;
@@ -166,7 +167,7 @@ fn write_word(word: &str, site: Site, out: &mut String) -> Result<(), AllocError
     ensures { OnOk result (string_bytes out.new ≡ string_bytes out.old ++ text (site_place site.entry) (Word word.now)) }
 {
     open(WORD, site, out)?;
-    out.push_str(word)?;
+    put_name(out, word)?;
     close(WORD, site, out)
 }
 

@@ -3,6 +3,7 @@ ghost use Rattle.std.specs.Prelude.{◌≡◌, ◌++◌, IfOk, OnOk, string_byte
 ghost use Rattle.hol_types.specs.Tree.{type_list};
 ghost use Rattle.hol_print.specs.ShowType.{in_parentheses, is_function, show_type, show_arguments, show_others};
 
+use crate::room::put_name;
 use hol_types::{Ty, TyNode};
 use std::alloc::{AllocError, Global};
 
@@ -27,10 +28,10 @@ pub(crate) fn write_type(ty: &Ty, text: &mut String) -> Result<(), AllocError>
         return write_type(range, text);
     }
     match ty.node() {
-        TyNode::Var(name) => text.push_str(name.as_str()),
+        TyNode::Var(name) => put_name(text, name.as_str()),
         TyNode::App(name, args) => {
             write_arguments(args, text)?;
-            text.push_str(name.as_str())
+            put_name(text, name.as_str())
         }
     }
 }

@@ -6,6 +6,7 @@ use Rattle.std.specs.Option.{option_map, option_and_then}
 use Rattle.std.specs.FinSet as set
 use Rattle.std.proofs.lemmas.Bool.{false≢true}
 use Rattle.std.proofs.lemmas.List.{drop_all}
+use Rattle.std.proofs.lemmas.Option.{same_Some}
 use Rattle.hol_types.specs.Tree.{TypeTree}
 use Rattle.hol_types.specs.Equal.{type_eq}
 use Rattle.hol_types.specs.Fun.{fun_type}
@@ -17,8 +18,8 @@ use Rattle.hol_terms.specs.Scoped.{binds, add_all}
 use Rattle.hol_subst.specs.Closing.{open_with}
 use Rattle.hol_subst.specs.Variant.{is_free_in}
 use Rattle.hol_formulas.specs.Equation.{bool_type, equation, dest_eq, Sides}
-use Rattle.hol_formulas.specs.Formula.{Abstraction, negation_type, connective_type, universal, conjunction, negation, falsity, truth, dest_forall, dest_conj, dest_neg}
-use Rattle.hol_formulas.proofs.FormulaLaws.{dest_quantifier_is, dest_binary_is, dest_unary_is, dest_eq_equation}
+use Rattle.hol_formulas.specs.Formula.{Abstraction, negation_type, universal, negation, falsity, truth, dest_forall, dest_conj, dest_neg}
+use Rattle.hol_formulas.proofs.FormulaLaws.{dest_quantifier_is, dest_unary_is, dest_eq_equation}
 use Rattle.hol_kernel.specs.Given.{Given, proved, assumed, given_sequent, given_over, IsOver}
 use Rattle.hol_kernel.specs.Gives.{Gives, in_kernel}
 use Rattle.hol_kernel.specs.Items.{Items}
@@ -31,9 +32,9 @@ use Rattle.hol_kernel.specs.declared.error.KernelError.TheVariants.{Refused, Cla
 use Rattle.hol_kernel.proofs.Sound.{sides_is}
 use Rattle.hol_kernel.proofs.Variables.{known_typed, variable_typed}
 use Rattle.hol_equal.specs.Unrefused.{IsUnrefused}
-use Rattle.hol_equal.specs.Applied.{lhs, rhs, rand, body}
-use Rattle.hol_derived.specs.Applied.{abstraction_in, bound_type, specialized, first_conjunct, second_conjunct, false_of, generalized as generalized_sequent}
-use Rattle.hol_derived.specs.Rules.{eqt_intro_of}
+use Rattle.hol_equal.specs.Applied.{rand, body}
+use Rattle.hol_derived.specs.Applied.{abstraction_in, bound_type, specialized, false_of, generalized as generalized_sequent}
+use Rattle.hol_derived.specs.Rules.{conjunct1_of, conjunct2_of, eqt_intro_of}
 use Rattle.hol_derived.proofs.Typed.{predicate_typed, domain_stands}
 use Rattle.hol_conv.proofs.RuleTypes.{variables_stand}
 use Rattle.hol_match.specs.Rules.{RuleValue, rule, single_rule, equation_rule, statement_rule, is_determined, generalized, pattern_variables}
@@ -185,44 +186,36 @@ spec_gives v th r own e h w is = record {
 pub ruleset specializing = (spec_is, spec_typed, spec_gives)
 
 -- the parts of a conjunction
-abbrev pub ConjunctsOf : Nameless → Type 0
-ConjunctsOf p = (p ≡ conjunction (lhs p) (rhs p)) × (stepped First p ≡ Some (lhs p)) × (stepped Second p ≡ Some (rhs p))
+module _ (f : Nameless × Nameless → Nameless) (s : RuleStep) (th : Theorem) where
+  abbrev part : Option (Nameless × Nameless) → Option Theorem
+  part o = over th.basis (option_map (λ q. sequent_of th.sequent.hyps (f q)) o)
 
-conjuncts_of : (p : Nameless) (o : Option (Nameless × Nameless)) → dest_conj p ≡ o → (o ≡ None → ⊥) → ConjunctsOf p
-conjuncts_of p None e h = absurd (h refl)
-conjuncts_of p (Some q) e h =
-    let is : p ≡ conjunction q.0 q.1 = dest_binary_is (codes "/\\") connective_type p q e in
-    (is ∙ ap (λ z. conjunction (lhs z) (rhs z)) (sym is), ap (option_map (λ z. z.0)) e ∙ ap (λ z. Some (lhs z)) (sym is), ap (option_map (λ z. z.1)) e ∙ ap (λ z. Some (rhs z)) (sym is))
+  part_applies : (o : Option (Nameless × Nameless)) → stepped s th.sequent.concl ≡ option_map f o → IsSome (stepped s th.sequent.concl) → IsSome (part o)
+  part_applies None e h = absurd (false≢true (ap is_some (sym e) ∙ h))
+  part_applies (Some q) e h = refl
 
-not_none : (f : Nameless × Nameless → Nameless) (o : Option (Nameless × Nameless)) → IsSome (option_map f o) → o ≡ None → ⊥
-not_none f None h e = false≢true h
-not_none f (Some q) h e = absurd (cc)
+  part_gives : (r : Theorem) (o : Option (Nameless × Nameless)) → stepped s th.sequent.concl ≡ option_map f o → part o ≡ Some r → IsStepped s th r
+  part_gives r None e h = (let none : None ≡ Some r = h in absurd (cc))
+  part_gives r (Some q) e h =
+      let is : theorem_on th.basis (sequent_of th.sequent.hyps (f q)) ≡ r = same_Some _ r h in
+      record {
+        basis = ap (λ z. z.basis) (sym is);
+        hyps = ap (λ z. z.sequent.hyps) (sym is);
+        concl = e ∙ ap (λ z. Some z.sequent.concl) is;
+      }
 
-conjuncts_first : (s : RuleStep) (p : Nameless) → s ≡ First → IsSome (stepped s p) → ConjunctsOf p
-conjuncts_first s p e h = conjuncts_of p (dest_conj p) refl (not_none (λ q. q.0) (dest_conj p) (subst (λ z. IsSome (stepped z p)) e h))
+module _ (s : RuleStep) (th : Theorem) where
+  pub first_applies : s ≡ First → IsSome (stepped s th.sequent.concl) → IsSome (over th.basis (conjunct1_of th.sequent))
+  first_applies e h = part_applies (λ q. q.0) s th (dest_conj th.sequent.concl) (ap (λ z. stepped z th.sequent.concl) e) h
 
-conjuncts_second : (s : RuleStep) (p : Nameless) → s ≡ Second → IsSome (stepped s p) → ConjunctsOf p
-conjuncts_second s p e h = conjuncts_of p (dest_conj p) refl (not_none (λ q. q.1) (dest_conj p) (subst (λ z. IsSome (stepped z p)) e h))
+  pub first_gives : (r : Theorem) → s ≡ First → over th.basis (conjunct1_of th.sequent) ≡ Some r → IsStepped s th r
+  first_gives r e h = part_gives (λ q. q.0) s th r (dest_conj th.sequent.concl) (ap (λ z. stepped z th.sequent.concl) e) h
 
-pub first_is : (s : RuleStep) (p : Nameless) → s ≡ First → IsSome (stepped s p) → p ≡ conjunction (lhs p) (rhs p)
-first_is s p e h = (conjuncts_first s p e h).0
+  pub second_applies : s ≡ Second → IsSome (stepped s th.sequent.concl) → IsSome (over th.basis (conjunct2_of th.sequent))
+  second_applies e h = part_applies (λ q. q.1) s th (dest_conj th.sequent.concl) (ap (λ z. stepped z th.sequent.concl) e) h
 
-pub first_gives : (s : RuleStep) (th r : Theorem) → s ≡ First → IsSome (stepped s th.sequent.concl) → r ≡ theorem_on th.basis (first_conjunct th.sequent) → IsStepped s th r
-first_gives s th r e h is = record {
-  basis = ap (λ z. z.basis) is;
-  hyps = ap (λ z. z.sequent.hyps) is;
-  concl = ap (λ z. stepped z th.sequent.concl) e ∙ (conjuncts_first s th.sequent.concl e h).1 ∙ ap (λ z. Some z.sequent.concl) (sym is);
-}
-
-pub second_is : (s : RuleStep) (p : Nameless) → s ≡ Second → IsSome (stepped s p) → p ≡ conjunction (lhs p) (rhs p)
-second_is s p e h = (conjuncts_second s p e h).0
-
-pub second_gives : (s : RuleStep) (th r : Theorem) → s ≡ Second → IsSome (stepped s th.sequent.concl) → r ≡ theorem_on th.basis (second_conjunct th.sequent) → IsStepped s th r
-second_gives s th r e h is = record {
-  basis = ap (λ z. z.basis) is;
-  hyps = ap (λ z. z.sequent.hyps) is;
-  concl = ap (λ z. stepped z th.sequent.concl) e ∙ (conjuncts_second s th.sequent.concl e h).2 ∙ ap (λ z. Some z.sequent.concl) (sym is);
-}
+  pub second_gives : (r : Theorem) → s ≡ Second → over th.basis (conjunct2_of th.sequent) ≡ Some r → IsStepped s th r
+  second_gives r e h = part_gives (λ q. q.1) s th r (dest_conj th.sequent.concl) (ap (λ z. stepped z th.sequent.concl) e) h
 
 pub at_stands : (s : RuleStep) (v : List ℕ × TypeTree) (p : Nameless) → s ≡ At v → IsSome (stepped s p) → IsSome (stepped (At v) p)
 at_stands s v p e h = subst (λ z. IsSome (stepped z p)) e h
@@ -230,7 +223,7 @@ at_stands s v p e h = subst (λ z. IsSome (stepped z p)) e h
 pub at_gives : (s : RuleStep) (v : List ℕ × TypeTree) (th r : Theorem) → s ≡ At v → IsStepped (At v) th r → IsStepped s th r
 at_gives s v th r e h = subst (λ z. IsStepped z th r) (sym e) h
 
-pub ruleset stepping = (first_is, first_gives, second_is, second_gives, at_stands, at_gives)
+pub ruleset stepping = (first_applies, first_gives, second_applies, second_gives, at_stands, at_gives)
 
 -- ---- the rule's own formula
 module _ (names : List (List ℕ)) (variables : List (List ℕ × TypeTree)) where

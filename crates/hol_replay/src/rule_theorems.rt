@@ -79,8 +79,8 @@ fn stepped(alloc: Global, step: &RuleStep, th: &Thm) -> Result<Thm, AllocError>
 {
     match step {
         RuleStep::At(v) => at_variable(alloc, v, th),
-        RuleStep::First => applied::left_conjunct(th),
-        RuleStep::Second => applied::right_conjunct(th),
+        RuleStep::First => applied::conjunct1(th),
+        RuleStep::Second => applied::conjunct2(th),
     }
 }
 

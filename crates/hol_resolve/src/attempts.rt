@@ -1,5 +1,7 @@
 //! What reading each quotation comes to, faults included.
-ghost use Rattle.std.specs.Prelude.{◌≡◌, IfOk};
+ghost use Rattle.std.specs.Prelude.{◌≡◌, IfOk, IfSome};
+ghost use Rattle.std.specs.List.{slice_get};
+ghost use Rattle.hol_resolve.specs.Quotations.{AreWrittenAlike};
 ghost use Rattle.hol_resolve.specs.declared.quotations.AnyQuotation.TheVariants as quoted;
 ghost use Rattle.hol_resolve.specs.SignatureView.{signature_value};
 ghost use Rattle.hol_resolve.specs.Readings.{ATerm, reading_map, IsQuotedAs, AreAttempts, has_wrong_arity, has_no_typing, is_large, first_with, all_read};
@@ -26,6 +28,23 @@ pub(crate) enum Attempt {
     ReadsAs(Quoted),
 }
 
+// Among so many quotations before one it is looked for one that is written alike.
+const LOOKED_AT: usize = 64;
+
+impl Attempt {
+    // The same.
+    fn copy(&self) -> Result<Attempt, AllocError>
+        ensures { IfOk result (λ attempt. attempt_value attempt ≡ attempt_value self.now) }
+    {
+        Ok(match self {
+            Attempt::WrongArity => Attempt::WrongArity,
+            Attempt::NoTyping => Attempt::NoTyping,
+            Attempt::LargeReading => Attempt::LargeReading,
+            Attempt::ReadsAs(quoted) => Attempt::ReadsAs(quoted.copy()?),
+        })
+    }
+}
+
 /// What reading the quotations comes to, each with its place.
 pub(crate) fn attempts_of(
     alloc: Global,
@@ -35,10 +54,45 @@ pub(crate) fn attempts_of(
     ensures { IfOk result (λ attempts. AreAttempts (signature_value over.now) quotations.now (attempts_value attempts.items)) }
 {
     let mut attempts = Vec::with_capacity(alloc, quotations.len())?;
-    for quotation in quotations {
-        attempts.push((quotation.place(), attempt_of(alloc, quotation, over)?))?;
+    for (i, quotation) in quotations.iter().enumerate() {
+        let attempt = attempt_beside(alloc, quotation, &quotations[..i], &attempts, over)?;
+        attempts.push((quotation.place(), attempt))?;
     }
     Ok(attempts)
+}
+
+// What reading the quotation comes to, beside what those before it come to: of one that is written alike it is the same, and is not made again.
+fn attempt_beside(
+    alloc: Global,
+    quotation: &AnyQuotation,
+    before: &[AnyQuotation],
+    attempts: &[(usize, Attempt)],
+    over: &Signature,
+) -> Result<Attempt, AllocError>
+    requires { AreAttempts (signature_value over.now) before.now (attempts_value attempts.now) }
+    ensures { IfOk result (λ attempt. IsQuotedAs (signature_value over.now) quotation.now (attempt_value attempt)) }
+{
+    if let Some(at) = place_of_like(quotation, before) {
+        if let Some(known) = attempts.get(at) {
+            return known.1.copy();
+        }
+    }
+    attempt_of(alloc, quotation, over)
+}
+
+// The place of a quotation that is written as this one, if one of the last ones is.
+fn place_of_like(quotation: &AnyQuotation, before: &[AnyQuotation]) -> Option<usize>
+    ensures { IfSome result (λ at. IfSome (slice_get before.now at) (λ known. AreWrittenAlike known quotation.now)) }
+{
+    let last = before.len().saturating_sub(LOOKED_AT);
+    let mut at = before.len();
+    'newest: while at > last {
+        at -= 1;
+        if before[at].is_written_as(quotation) {
+            return Some(at);
+        }
+    }
+    None
 }
 
 fn attempt_of(

@@ -1,6 +1,6 @@
 //! The quotations in what is written.
-ghost use Rattle.std.specs.Prelude.{◌≡◌, IfOk};
-ghost use Rattle.hol_resolve.specs.Quotations.{place_of, quotations_in};
+ghost use Rattle.std.specs.Prelude.{◌≡◌, true, IfOk};
+ghost use Rattle.hol_resolve.specs.Quotations.{place_of, quotations_in, AreWrittenAlike};
 
 use hol_notation_tactics::Part;
 use hol_notation_terms::{Quotation, TypeQuotation};
@@ -23,6 +23,22 @@ impl AnyQuotation {
         match self {
             AnyQuotation::Term(term) => term.place,
             AnyQuotation::Type(ty) => ty.place,
+        }
+    }
+
+    /// Whether it is found to be written as the other, wherever that stands.
+    pub(crate) fn is_written_as(&self, other: &AnyQuotation) -> bool
+        ensures { result ≡ true → AreWrittenAlike self.now other.now }
+    {
+        match self {
+            AnyQuotation::Term(term) => match other {
+                AnyQuotation::Term(other) => term.term.same(&other.term),
+                AnyQuotation::Type(_) => false,
+            },
+            AnyQuotation::Type(ty) => match other {
+                AnyQuotation::Term(_) => false,
+                AnyQuotation::Type(other) => ty.ty.same(&other.ty),
+            },
         }
     }
 }

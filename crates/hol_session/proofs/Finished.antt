@@ -1,6 +1,7 @@
 -- What the report on a `qed` tells.
 use Rattle.std.proofs.Common.{◌≡◌, ℕ, List, [], ◌∷◌, ◌++◌, map, Bool, true, false, cond, nat_eq, sym, ◌∙◌, ap, subst}
 use Rattle.std.specs.Prelude.{codes, Option, Some, None}
+use Rattle.std.proofs.lemmas.Option.{same_Some}
 use Rattle.hol_terms.specs.Nameless.{Nameless}
 use Rattle.hol_theory.specs.Key.{KeyValue}
 use Rattle.hol_notation_commands.specs.Text.{Local, Qed}
@@ -29,9 +30,6 @@ made_texts (ShowsGoals goals) = None
 made_texts (HasMade texts) = Some texts
 made_texts (WasRefused kind arg) = None
 
-some_same : {A : Type 0} (x y : A) → Some x ≡ Some y → x ≡ y
-some_same x y e = cc
-
 -- a `qed` makes one theorem, or is refused
 closed_tells : (rows : List Row) (o : OutcomeValue) (s : StateValue) (texts : List (List ℕ)) (closing : Option ClosingValue) → o ≡ finishes closing → MakesFinished rows o
     → report_of o s ≡ HasMade texts → TellGoal rows texts
@@ -42,7 +40,7 @@ closed_tells rows o s texts (Some c) e h is = by (nat_eq c.open_goals 0) e
     by true e =
         let one : MakesFinished rows (finished c) = subst (MakesFinished rows) e h in
         let own : c.name ≡ one.0.name = ap (λ (k : KeyValue). k.name) one.0.under in
-        let told : (codes "thm " ++ c.name ++ codes " " ++ theorem_text c.statement) ∷ [] ≡ texts = some_same _ texts (ap (λ o. made_texts (report_of o s)) (sym e) ∙ ap made_texts is) in
+        let told : (codes "thm " ++ c.name ++ codes " " ++ theorem_text c.statement) ∷ [] ≡ texts = same_Some _ texts (ap (λ o. made_texts (report_of o s)) (sym e) ∙ ap made_texts is) in
         (c.name, c.statement, one.0.goal ∙ ap (λ n. Some (n, c.statement)) (sym own), sym told)
     by false e = (let f : None ≡ Some texts = ap (λ o. made_texts (report_of o s)) (sym e) ∙ ap made_texts is in absurd (cc))
 

@@ -6,5 +6,6 @@ pub mod Runs
 pub mod Machines
 pub mod Theorems
 pub mod Origins
+pub mod Axioms
 pub mod Finished
 pub mod WholeTexts

@@ -1,6 +1,7 @@
 -- Where theorems come from, row by row.
 use Rattle.std.proofs.Common.{◌≡◌, ◌⊎◌, ℕ, List, [], ◌∷◌, ◌++◌, map, Bool, true, false, cond, nat_lt, refl, sym, ◌∙◌, ap, subst, append_assoc, arith, inl, inr}
 use Rattle.std.proofs.lemmas.Grind.{common_steps}
+use Rattle.std.proofs.lemmas.Option.{same_Some}
 use Rattle.std.specs.Prelude.{bytes_eq, is_none, is_some, Option, Some, None}
 use Rattle.std.specs.List.{All, Contains}
 use Rattle.std.proofs.lemmas.List.Elements.{All-nil, All-cons, All-append, All-weaker, All-filter, All-contains, All-contains_itself}
@@ -42,6 +43,7 @@ use Rattle.hol_exec.specs.Signature.{signature_of}
 use Rattle.hol_document.specs.Documents.{Documents, TheoryText}
 use Rattle.hol_document.specs.Afresh.{Row, AreRows, TheoryRun, AreRuns, AreRunsOf, ended}
 use Rattle.hol_document.specs.Shown.{IsMadeIn}
+use Rattle.hol_document.proofs.Made.{made_more}
 use Rattle.hol_session.specs.Origins.{StatesTheorem, MakesTheorem, ComesFrom, by_command, by_import, HasOrigin}
 
 -- ---- what an outcome makes
@@ -53,9 +55,6 @@ made_by Undoes = None
 made_by (Rotates times) = None
 made_by (Makes entries) = Some entries
 made_by (Refuses kind arg) = None
-
-some_same : {A : Type 0} (x y : A) → Some x ≡ Some y → x ≡ y
-some_same x y e = cc
 
 -- an outcome that makes nothing isn't one that makes these
 makes_none : (P : Type 0) (o : OutcomeValue) (entries : Entries) → made_by o ≡ None → o ≡ Makes entries → P
@@ -88,7 +87,7 @@ refused_is o q is none = nothing_made o (ap made_by is ∙ none)
 
 one_made : (o : OutcomeValue) (e : KeyValue × EntryValue) → o ≡ Makes (e ∷ []) → IsNoTheorem e → MakesNoTheorem o
 one_made o e is h = λ entries made.
-    subst (All IsNoTheorem) (some_same (e ∷ []) entries (sym (ap made_by is) ∙ ap made_by made)) (All-cons IsNoTheorem e [] h (All-nil IsNoTheorem))
+    subst (All IsNoTheorem) (same_Some (e ∷ []) entries (sym (ap made_by is) ∙ ap made_by made)) (All-cons IsNoTheorem e [] h (All-nil IsNoTheorem))
 
 opening_makes : (in_proof : Bool) (name : List ℕ) (quotation : QuotationText) (reads : ReadsValue) (o : OutcomeValue) → IsOpening in_proof name quotation reads o → MakesNoTheorem o
 opening_makes true name quotation reads o h = refused_is o _ h refl
@@ -168,7 +167,7 @@ OriginsAfter front (run ∷ runs) = All (HasOrigin front run.rows) run.last.entr
 abbrev RunsHaveOrigins : List TheoryRun → Type 0
 RunsHaveOrigins runs = OriginsAfter [] runs
 
-abbrev made_here : (before : List Row) (row : Row) (entries : Entries) (e : KeyValue × EntryValue) → row.outcome ≡ Makes entries → Contains entries e → IsMadeIn (before ++ row ∷ []) e
+abbrev pub made_here : (before : List Row) (row : Row) (entries : Entries) (e : KeyValue × EntryValue) → row.outcome ≡ Makes entries → Contains entries e → IsMadeIn (before ++ row ∷ []) e
 made_here before row entries e made among = record { before = before; row = row; later = []; splits = refl; entries = entries; made = made; among = among }
 
 -- each of them, where each theorem among them has one
@@ -203,7 +202,7 @@ found_run front (run ∷ runs) name theory origins h =
   where
     by : (b : Bool) → bytes_eq run.name name ≡ b → cond b (Some run.last.entries) (entries_named name (map ended runs)) ≡ Some theory
         → (entries_named name (map ended runs) ≡ Some theory → Found (front ++ run ∷ runs) name theory) → Found (front ++ run ∷ runs) name theory
-    by true e h more = (front, run, runs, refl, (bytes_eq-Decides run.name name).0 e, some_same run.last.entries theory h, origins.0)
+    by true e h more = (front, run, runs, refl, (bytes_eq-Decides run.name name).0 e, same_Some run.last.entries theory h, origins.0)
     by false e h more = more h
 
 import_origins : (earlier : List TheoryRun) (before : List Row) (s : StateValue) (row : Row) (name : List ℕ) (entries : Entries) → RunsHaveOrigins earlier → row.value ≡ Reads (Direct (Import name))
@@ -213,7 +212,7 @@ import_origins earlier before s row name entries origins is imports made = in_pr
     taken : (theory : Entries) → Found earlier name theory → (clash : Option KeyValue) → row.outcome ≡ imports_from s.entries theory clash → All (HasOrigin earlier (before ++ row ∷ [])) entries
     taken theory found (Some key) e = makes_none _ row.outcome entries (ap made_by e) made
     taken theory (front, run, later, splits, named, last, own) None e =
-        let theirs : missing s.entries theory ≡ entries = some_same _ _ (sym (ap made_by e) ∙ ap made_by made) in
+        let theirs : missing s.entries theory ≡ entries = same_Some _ _ (sym (ap made_by e) ∙ ap made_by made) in
         let kept : All (HasOrigin front run.rows) (missing s.entries theory) =
         All-filter (λ x. is_none (entry_at x.0 s.entries)) (HasOrigin front run.rows) theory (subst (All (HasOrigin front run.rows)) last own) in
         each_origin earlier (before ++ row ∷ []) entries (λ key th among.
@@ -256,7 +255,7 @@ dropped_makes s earlier o is = by s.proof is
   where
     by : (p : Option ProofValue) → o ≡ drops p → MakesNoTheorem o
     by None e = refused_is o _ e refl
-    by (Some p) e = λ entries made. subst (All IsNoTheorem) (some_same [] entries (sym (ap made_by e) ∙ ap made_by made)) (All-nil IsNoTheorem)
+    by (Some p) e = λ entries made. subst (All IsNoTheorem) (same_Some [] entries (sym (ap made_by e) ∙ ap made_by made)) (All-nil IsNoTheorem)
 
 row_origins : (setup : SetupValue) (earlier : List TheoryRun) (before : List Row) (s : StateValue) (row : Row) (entries : Entries) → RunsHaveOrigins earlier
     → (value : ReadText) (reads : Option ReadsValue) → row.value ≡ value → IsOutcome setup (map ended earlier) s value reads row.tested row.outcome → row.outcome ≡ Makes entries
@@ -287,17 +286,6 @@ row_origins setup earlier before s row entries origins (Breaks place) (Some read
 -- ---- rows and runs
 
 -- a row more takes no origin away
-abbrev made_more : (rows : List Row) (row : Row) (e : KeyValue × EntryValue) → IsMadeIn rows e → IsMadeIn (rows ++ row ∷ []) e
-made_more rows row e h = record {
-  before = h.before;
-  row = h.row;
-  later = h.later ++ row ∷ [];
-  splits = ap (λ xs. xs ++ row ∷ []) h.splits ∙ append_assoc h.before (h.row ∷ h.later) (row ∷ []);
-  entries = h.entries;
-  made = h.made;
-  among = h.among;
-}
-
 origin_more : (earlier : List TheoryRun) (rows : List Row) (row : Row) (e : KeyValue × EntryValue) → HasOrigin earlier rows e → HasOrigin earlier (rows ++ row ∷ []) e
 origin_more earlier rows row (key, AType arity item basis) h = tt
 origin_more earlier rows row (key, AConstant ty item basis) h = tt

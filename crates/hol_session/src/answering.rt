@@ -121,20 +121,36 @@ fn unread_reply(error: &Error) -> Reply
     not_json()
 }
 
-/// The reply to a line, with its newline.
+// Where the reader wants memory, what can be forgotten is.
+fn forget_for<D: Editable>(docs: &mut D, error: &Error)
+    ensures documents { D.value docs.new ≡ D.value docs.old }
+    ensures ran { D.ran docs.new ≡ D.ran docs.old }
+{
+    if error.is_memory() {
+        docs.forget();
+    }
+}
+
+/// The reply to a line, with its newline. Before the memory line, what can be forgotten is: so the next request finds what memory there is.
 pub(crate) fn answer<D: Editable>(alloc: Global, docs: &mut D, line: &[u8]) -> Reply
     requires { length line.now ≤ line_limit }
     ensures { MayAnswer (counted (D.value docs.old) (D.ran docs.old)) line.now (reply_bytes result.text) result.closes (counted (D.value docs.new) (D.ran docs.new)) }
 {
     let value = match Value::from_slice(alloc, line) {
         Ok(value) => value,
-        Err(error) => return unread_reply(&error),
+        Err(error) => {
+            forget_for(docs, &error);
+            return unread_reply(&error);
+        }
     };
     let Some(request) = request_of(&value) else {
         return shape();
     };
     match served(alloc, docs, request) {
         Ok(reply) => reply,
-        Err(_refused) => memory(),
+        Err(_refused) => {
+            docs.forget();
+            memory()
+        }
     }
 }

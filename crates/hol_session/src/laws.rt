@@ -2,6 +2,8 @@
 ghost use Rattle.std.specs.Prelude.{◌≡◌, ℕ, List, [], ◌∷◌, ◌++◌, codes, Some, None};
 ghost use Rattle.std.specs.List.{All};
 ghost use Rattle.hol_terms.specs.Nameless.{Nameless};
+ghost use Rattle.hol_kernel.specs.Item.{declared_axiom};
+ghost use Rattle.hol_kernel.specs.Items.{Holds};
 ghost use Rattle.hol_exec.specs.ReportOf.{theorem_text};
 ghost use Rattle.hol_exec.specs.ReportValue.{ReportValue, HasMade};
 ghost use Rattle.hol_notation_commands.specs.Text.{Local, Qed};
@@ -12,8 +14,8 @@ ghost use Rattle.hol_document.specs.Afresh.{TheoryRun, AreRunsOf};
 ghost use Rattle.hol_document.specs.Shown.{open_goal, IsProvedReport};
 ghost use Rattle.hol_session.specs.Lines.{begun_line, whole_lines, text_of_lines, HasNoNewline};
 ghost use Rattle.hol_session.specs.Machine.{Counted, Machine};
-ghost use Rattle.hol_session.specs.Origins.{HasOrigin};
-ghost use Rattle.hol_session.specs.Theorems.{TellsOfTheorems};
+ghost use Rattle.hol_session.specs.Origins.{HasOrigin, IsStatedIn, RestsOnStated};
+ghost use Rattle.hol_session.specs.Theorems.{TellsOfTheorem, TellsOfTheorems};
 
 /// What a reply tells of theorems is so, whichever the line is.
 pub fn replies_tell_of_theorems()
@@ -32,6 +34,18 @@ pub fn finished_proofs_tell_their_goals()
 pub fn theorems_have_origins()
     ensures { (docs : Documents) (before : List TheoryRun) (run : TheoryRun) (later : List TheoryRun)
         → AreRunsOf docs (before ++ run ∷ later) → All (HasOrigin before run.rows) run.last.entries }
+{}
+
+/// Each axiom on which something in a theory rests was stated there by a `new_axiom` of its name, or in an earlier theory from which something was imported.
+pub fn axioms_are_stated_by_commands()
+    ensures { (docs : Documents) (before : List TheoryRun) (run : TheoryRun) (later : List TheoryRun)
+        → AreRunsOf docs (before ++ run ∷ later) → All (RestsOnStated before run.rows) run.last.entries }
+{}
+
+/// So is each axiom on which a theorem rests that a reply tells of.
+pub fn axioms_of_theorems_are_stated()
+    ensures { (docs : Documents) (text : List ℕ) (told : TellsOfTheorem docs text) (name : List ℕ) (p : Nameless)
+        → Holds told.th.basis (declared_axiom name p) → IsStatedIn docs name p }
 {}
 
 /// A text is its lines with a newline behind each, and what follows the last of them; and no newline is in a line. So the lines are the ones that one means.

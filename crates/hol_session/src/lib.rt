@@ -11,8 +11,8 @@ mod serving;
 
 pub use ending::Ending;
 pub use laws::{
-    finished_proofs_tell_their_goals, replies_tell_of_theorems, texts_are_their_lines,
-    theorems_have_origins,
+    axioms_are_stated_by_commands, axioms_of_theorems_are_stated, finished_proofs_tell_their_goals,
+    replies_tell_of_theorems, texts_are_their_lines, theorems_have_origins,
 };
 pub use lines::{Fault, Sink, Source, Watched, WriteFault, write_reply};
 pub use serving::{answer_all, run};

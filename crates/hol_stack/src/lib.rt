@@ -9,6 +9,7 @@ mod error;
 mod finishing;
 mod shared_step;
 mod stack;
+mod weight;
 
 pub use basis::joined;
 pub use element::Element;

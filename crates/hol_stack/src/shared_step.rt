@@ -1,6 +1,7 @@
 //! Steps that are kept.
 ghost use Rattle.std.specs.Prelude.{◌≡◌, IfOk};
 
+use crate::weight::Weight;
 use hol_goal::Goal;
 use hol_just::{Just, Step};
 use std::alloc::{AllocError, Global};
@@ -50,6 +51,14 @@ impl SharedStep {
         ensures { result.now ≡ self.now.moves }
     {
         &self.shared.just
+    }
+
+    /// How much it holds, in nodes of terms, up to 2^32 - 1: its goals, and why they are left. What it shares counts too.
+    pub fn weight(&self) -> u32 {
+        let mut weight = Weight::none();
+        weight.add_goals(self.goals());
+        weight.add_moves(self.just().moves());
+        weight.nodes()
     }
 
     /// The same step.

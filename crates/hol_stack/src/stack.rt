@@ -12,11 +12,12 @@ use crate::element::{Change, Earlier, Element};
 use crate::error::StackError;
 use crate::finishing::theorem;
 use crate::shared_step::SharedStep;
+use crate::weight::Weight;
 use hol_goal::Goal;
 use hol_kernel::{Basis, Thm};
 use std::alloc::{AllocError, Global};
 use std::marker::Model;
-use std::mem;
+use std::{mem, slice};
 
 /// A goal stack: the goal that it was set to, and its history. Of the earlier elements the newest stands last.
 #[derive(Drop)]
@@ -175,6 +176,17 @@ impl Stack {
             return Err(StackError::GoalsRemain);
         }
         Ok(theorem(alloc, &self.goal, self.earlier.as_slice(), &self.newest)?)
+    }
+
+    /// How much it holds, in nodes of terms, up to 2^32 - 1: its goal, the steps of its history and the bases. What it shares counts too.
+    pub fn weight(&self) -> u32 {
+        let mut weight = Weight::none();
+        weight.add_goals(slice::from_ref(&self.goal));
+        weight.add_basis(self.basis());
+        for one in self.earlier.as_slice() {
+            weight.add_earlier(one);
+        }
+        weight.nodes()
     }
 
     /// An equal stack.

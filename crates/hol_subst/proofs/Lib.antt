@@ -26,3 +26,5 @@ pub mod HypothesisLists
 pub mod Images
 pub mod TermNames
 pub mod ClosedTerm
+pub mod NameFilters
+pub mod AlikeFilters

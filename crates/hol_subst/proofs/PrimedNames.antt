@@ -11,12 +11,12 @@ use Rattle.hol_terms.proofs.Primes.{primes_length}
 -- ---- primes alone
 
 -- the primes stand after the base
-primes_at_end : (k : ℕ) (a : List ℕ) → with_primes k a ≡ a ++ with_primes k []
+pub primes_at_end : (k : ℕ) (a : List ℕ) → with_primes k a ≡ a ++ with_primes k []
 primes_at_end zero a = sym (append-nil a)
 primes_at_end (suc k) a = ap (λ x. x ++ 39 ∷ []) (primes_at_end k a) ∙ append_assoc a (with_primes k []) (39 ∷ [])
 
 -- one of them may as well come first
-prime_before : (k : ℕ) → with_primes (suc k) [] ≡ 39 ∷ with_primes k []
+pub prime_before : (k : ℕ) → with_primes (suc k) [] ≡ 39 ∷ with_primes k []
 prime_before zero = refl
 prime_before (suc k) = ap (λ x. x ++ 39 ∷ []) (prime_before k)
 

@@ -9,6 +9,7 @@ ghost use Rattle.hol_terms.specs.Scope.{binders};
 ghost use Rattle.hol_terms.specs.Scoped.{binds, add_all};
 ghost use Rattle.hol_subst.specs.Substitution.{variable_inst, types_inst};
 ghost use Rattle.hol_subst.specs.Substituted.{IsInst};
+ghost use Rattle.hol_subst.specs.Marks.{HasPrimed};
 ghost use Rattle.hol_subst.specs.Variant.{is_free_in, IsVariant};
 ghost use Rattle.hol_subst.specs.Renaming.{image, images_without, images_of, is_alike, is_alike_in, KeepsTypes, KeepsBases, IsInstance, HasRenamed};
 ghost use Rattle.hol_types.specs.Filter.{name_bit};
@@ -21,11 +22,12 @@ use hol_terms::{Scope, Term, TermNode, Variable, base_name, contains};
 use hol_types::{Name, NameFilter, Ty};
 use std::alloc::{AllocError, Global};
 
-// A bound variable, and its name without the primes at the end.
+// A bound variable, its name without the primes at the end, and a set that has this with any number of primes.
 #[derive(Clone, Copy)]
 struct Alike<'a> {
     v: &'a Variable,
     base: &'a str,
+    primed: NameFilter,
 }
 
 /// The term with types for its type variables, of which the first pair of a name counts.
@@ -196,22 +198,33 @@ fn other_images(
     ensures kept { types.new ≡ types.old }
 {
     let base = base_name(v.name().as_str());
+    let primed = NameFilter::of_primed(base);
     let mut found = Vec::new(alloc);
-    add_alike(&Alike { v, base }, &Scope::Outside, body, &mut found)?;
+    add_alike(
+        &Alike { v, base, primed },
+        &Scope::Outside,
+        body,
+        &mut found,
+    )?;
     images(alloc, types, old, new, &found)
 }
 
 // Puts each variable alike that is free in the term, and not there yet, at the end. Of the binders that were passed only those that are
-// alike bind one.
+// alike bind one. A part that has none of their places is passed over.
+#[tactic(auto, using(crate::proofs::AlikeFilters::none_alike))]
 fn add_alike(
     alike: &Alike<'_>,
     inner: &Scope,
     t: &Term,
     found: &mut Vec<Variable>,
 ) -> Result<(), AllocError>
-    requires { alike.now.base.now ≡ base_of alike.now.v.now.0 }
+    requires base { alike.now.base.now ≡ base_of alike.now.v.now.0 }
+    requires primed { HasPrimed alike.now.primed.bits (base_of alike.now.v.now.0) }
     ensures { OnOk result ((w : List ℕ × TypeTree) → binds found.new.items w ≡ (binds found.old.items w || is_alike_in alike.now.v.now (binders inner.now) t.now w)) }
 {
+    if !t.filter().meets(alike.primed) {
+        return Ok(());
+    }
     match t.node() {
         TermNode::Var(w) => add_variable(alike, inner, w, found),
         TermNode::Const(_, _) => Ok(()),

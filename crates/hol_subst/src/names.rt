@@ -5,10 +5,10 @@ ghost use Rattle.hol_terms.specs.Primes.{with_primes};
 ghost use Rattle.hol_terms.specs.Scope.{binders};
 ghost use Rattle.hol_terms.specs.Scoped.{binds};
 ghost use Rattle.hol_subst.specs.FreeName.{has_name, is_taken, IsFreeName};
-ghost use Rattle.hol_subst.specs.Marks.{Marks};
+ghost use Rattle.hol_subst.specs.Marks.{Marks, HasPlace, HasPrimed, Lacks};
 
 use hol_terms::{Scope, Term, TermNode, Variable};
-use hol_types::Name;
+use hol_types::{Name, NameFilter};
 use std::alloc::{AllocError, Global};
 
 /// The base with the fewest primes more at its end that make it differ from the names of all free variables and constants in the
@@ -27,25 +27,37 @@ pub fn free_name(alloc: Global, avoid: &[Term], base: &Name) -> Result<Name, All
 fn is_taken(avoid: &[Term], name: &Name) -> bool
     ensures { result ≡ is_taken (map (λ t. nameless [] t) avoid.now) name.now }
 {
+    let place = NameFilter::of_name(name);
     for term in avoid {
-        if has_name(term, &Scope::Outside, name) {
+        if has_name(term, &Scope::Outside, name, place) {
             return true;
         }
     }
     false
 }
 
-// The same in one term, of which the binders were passed.
-#[tactic(auto, using(crate::proofs::FreeName::has_place))]
-fn has_name(term: &Term, scope: &Scope, name: &Name) -> bool
+// The same in one term, of which the binders were passed. `place` is that of the name: a part that has none of this place is passed over.
+#[tactic(auto, using(crate::proofs::FreeName::has_place, crate::proofs::NameFilters::lacked))]
+fn has_name(term: &Term, scope: &Scope, name: &Name, place: NameFilter) -> bool
+    requires { HasPlace place.bits name.now }
     ensures { result ≡ has_name name.now (nameless (binders scope.now) term.now) }
 {
+    if lacks_all(term, place) {
+        return false;
+    }
     match term.node() {
         TermNode::Var(v) => v.name().same(name) && !scope.binds(v),
         TermNode::Const(c, _) => c.same(name),
-        TermNode::Comb(f, x) => has_name(f, scope, name) || has_name(x, scope, name),
-        TermNode::Abs(v, b) => has_name(b, &Scope::Inside(v, &*scope), name),
+        TermNode::Comb(f, x) => has_name(f, scope, name, place) || has_name(x, scope, name, place),
+        TermNode::Abs(v, b) => has_name(b, &Scope::Inside(v, &*scope), name, place),
     }
+}
+
+// Whether it is seen at once that no variable and no constant in the term has a name of these.
+fn lacks_all(term: &Term, names: NameFilter) -> bool
+    ensures { IsTrue result → Lacks names.bits term.now }
+{
+    !term.filter().meets(names) && !term.constants().meets(names)
 }
 
 /// Whether the base with k primes is the name of a free variable or of a constant in one of the terms, at each k: no longer than those
@@ -54,29 +66,37 @@ pub fn taken_primes(alloc: Global, avoid: &[Term], base: &str) -> Result<Vec<boo
     ensures { IfOk result (λ taken. Marks [] taken.items (λ k. is_taken (map (λ t. nameless [] t) avoid.now) (with_primes k base.now))) }
 {
     let mut taken = Vec::new(alloc);
+    let primed = NameFilter::of_primed(base);
     for term in avoid {
-        mark_names(term, &Scope::Outside, base, &mut taken)?;
+        mark_names(term, &Scope::Outside, base, primed, &mut taken)?;
     }
     Ok(taken)
 }
 
 // Marks for each free variable and each constant in a term, of which the binders were passed, how many primes after the base its name is.
+// `primed` has the base with any number of primes: a part that has none of these places is passed over.
+#[tactic(auto, using(crate::proofs::NameFilters::none_marked))]
 fn mark_names(
     term: &Term,
     scope: &Scope,
     base: &str,
+    primed: NameFilter,
     taken: &mut Vec<bool>,
 ) -> Result<(), AllocError>
+    requires { HasPrimed primed.bits base.now }
     ensures { OnOk result (Marks taken.old.items taken.new.items (λ k. has_name (with_primes k base.now) (nameless (binders scope.now) term.now))) }
 {
+    if lacks_all(term, primed) {
+        return Ok(());
+    }
     match term.node() {
         TermNode::Var(v) => mark_variable(v, scope, base, taken),
         TermNode::Const(c, _) => mark_name(c, base, taken),
         TermNode::Comb(f, x) => {
-            mark_names(f, scope, base, taken)?;
-            mark_names(x, scope, base, taken)
+            mark_names(f, scope, base, primed, taken)?;
+            mark_names(x, scope, base, primed, taken)
         }
-        TermNode::Abs(v, b) => mark_names(b, &Scope::Inside(v, &*scope), base, taken),
+        TermNode::Abs(v, b) => mark_names(b, &Scope::Inside(v, &*scope), base, primed, taken),
     }
 }
 

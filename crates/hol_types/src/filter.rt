@@ -1,5 +1,6 @@
 //! What types and terms keep of the names that stand in them, to tell at once that a name is none of these.
-ghost use Rattle.std.specs.Prelude.{◌≡◌, ◌≢◌, ◌<◌, ◌↔◌, IsTrue};
+ghost use Rattle.std.specs.Prelude.{◌≡◌, ◌≢◌, ◌<◌, ◌↔◌, ◌++◌, ◌∷◌, ◌+◌, ◌*◌, ◌^◌, ◌%◌, [], ℕ, List, IsTrue};
+ghost use Rattle.std.specs.Int.{bit_at};
 ghost use Rattle.std.specs.Int.RustNames.{bit_and, bit_or};
 ghost use Rattle.hol_types.specs.Filter.{name_place, name_bit, pairs_filter};
 
@@ -21,13 +22,35 @@ impl NameFilter {
     }
 
     /// The set of this name, and of all names of its place.
-    #[tactic(auto, using(crate::proofs::Filters::one_bit))]
     pub fn of_name(name: &Name) -> NameFilter
         ensures { result.bits ≡ name_bit name.now }
     {
-        NameFilter {
-            bits: 1 << place_of(name),
-        }
+        NameFilter::of_place(place_of(name.as_str()))
+    }
+
+    /// A set that has this base, and it with any number of primes at its end: these have four places.
+    #[tactic(auto, using(crate::proofs::PrimedFilters::four_places, crate::proofs::PrimedFilters::closed))]
+    pub fn of_primed(base: &str) -> NameFilter
+        ensures base { bit_at result.bits (name_place 0 base.now) ≡ 1 }
+        ensures primed { (a : List ℕ) → bit_at result.bits (name_place 0 a) ≡ 1 → bit_at result.bits (name_place 0 (a ++ 39 ∷ [])) ≡ 1 }
+    {
+        let none = place_of(base);
+        let one = primed_place(none);
+        let two = primed_place(one);
+        let three = primed_place(two);
+        NameFilter::of_place(none)
+            .union(NameFilter::of_place(one))
+            .union(NameFilter::of_place(two))
+            .union(NameFilter::of_place(three))
+    }
+
+    // The set of all names of this place.
+    #[tactic(auto, using(crate::proofs::Filters::one_bit))]
+    fn of_place(place: u32) -> NameFilter
+        requires { place < 64 }
+        ensures { result.bits ≡ 2 ^ place }
+    {
+        NameFilter { bits: 1 << place }
     }
 
     /// The set of the names for which the pairs have types.
@@ -73,14 +96,23 @@ impl NameFilter {
     }
 }
 
+// The place of a name with one prime more than one of this place.
+fn primed_place(place: u32) -> u32
+    requires { place < 64 }
+    ensures place { result ≡ (31 * place + 39) % 64 }
+    ensures within { result < 64 }
+{
+    (31 * place + 39) % 64
+}
+
 // The place of a name, below 64: its bytes, mixed.
 #[tactic(auto, using(crate::proofs::Filters::place_within))]
-fn place_of(name: &Name) -> u32
+fn place_of(name: &str) -> u32
     ensures place { result ≡ name_place 0 name.now }
     ensures within { result < 64 }
 {
     let mut place = 0;
-    for byte in name.as_str().as_bytes() {
+    for byte in name.as_bytes() {
         place = (31 * place + *byte as u32) % 64;
     }
     place

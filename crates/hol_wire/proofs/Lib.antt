@@ -1,3 +1,4 @@
 pub mod Literals
 pub mod Floats
 pub mod Said
+pub mod Apart

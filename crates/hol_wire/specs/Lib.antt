@@ -3,3 +3,4 @@ pub mod Replies
 pub mod ReplyBytes
 pub mod Texts
 pub mod Views
+pub mod Apart

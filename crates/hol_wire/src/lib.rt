@@ -4,12 +4,14 @@
 #![tactic(auto)]
 
 mod constants;
+mod laws;
 mod reading;
 mod replies;
 mod reply;
 mod requests;
 
 pub use constants::{closed, done, line_too_long, memory, not_json, refused, shape};
+pub use laws::replies_are_told_apart;
 pub use reading::request_of;
 pub use replies::{counts, lists, reports, rests_on};
 pub use reply::{Reply, ReplyText};

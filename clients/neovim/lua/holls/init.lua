@@ -188,7 +188,7 @@ local function config()
       client_id = nil
       if status ~= 0 and vim.v.exiting == vim.NIL then
         vim.schedule(function()
-          vim.notify('holls ended with status ' .. status .. '; is Python 3.8 on the PATH? :HolRestart starts it again', vim.log.levels.ERROR)
+          vim.notify('holls ended with status ' .. status .. '; is Python 3.9 on the PATH? :HolRestart starts it again', vim.log.levels.ERROR)
         end)
       end
     end,

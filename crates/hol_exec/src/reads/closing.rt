@@ -71,6 +71,11 @@ impl Closing {
         self.name.as_str()
     }
 
+    /// How much it holds, in nodes of terms, up to 2^32 - 1: the proof's history.
+    pub(crate) fn weight(&self) -> u32 {
+        self.stack.weight()
+    }
+
     /// The statement.
     pub(crate) fn statement(&self) -> &Term
         ensures { nameless [] result.now ≡ self.now.statement }

@@ -9,7 +9,7 @@ use crate::reports::report::Report;
 use crate::running::{Change, Outcome};
 use crate::state::{NewEntries, State};
 use hol_goal::Goal;
-use hol_print::{ShownBefore, ShownGoal, show_goal, show_term, show_type};
+use hol_print::{Room, ShownBefore, ShownGoal, show_goal, show_term, show_type};
 use hol_stack::Element;
 use hol_theory::{Key, Value, ValueNode};
 use std::alloc::{AllocError, Global};
@@ -102,9 +102,12 @@ fn entry_texts(alloc: Global, entries: &NewEntries) -> Result<Vec<String>, Alloc
     ensures { IfOk result (λ texts. map string_bytes texts.items ≡ map entry_text entries.now) }
 {
     let mut texts = Vec::with_capacity(alloc, entries.len())?;
+    let mut room = Room::new();
     for i in 0..entries.len() {
         let (key, value) = entries.entry(i);
-        texts.push(entry_text(alloc, key, value)?)?;
+        let text = entry_text(alloc, key, value)?;
+        room.take(text.as_str())?;
+        texts.push(text)?;
     }
     Ok(texts)
 }

@@ -37,17 +37,18 @@ pub(crate) enum Resolution {
     Unresolved(RefusalKind, String),
 }
 
-/// Resolves what is written: unknown theorem; unknown TAC or wrong arguments; what readings refuse; not bool; then a key that is taken, if the command makes one; then what
-/// rules and arguments refuse.
+/// Resolves what is written: unknown theorem; unknown TAC or wrong arguments, the name of the expression that the command itself names among them; what readings refuse; not
+/// bool; then a key that is taken, if the command makes one; then what rules and arguments refuse.
 #[tactic(auto, using(crate::proofs::Resolutions::unknown_theorem, crate::proofs::Resolutions::unknown_tac, crate::proofs::Resolutions::fitting))]
 pub(crate) fn resolve(
     alloc: Global,
     setup: &Setup,
+    own: Option<&str>,
     taken: Option<&Key>,
     tactic: &TacExpr,
     reads: &Reads,
 ) -> Result<Resolution, AllocError>
-    ensures value { IfOk result (λ r. IsResolution (setup_value setup.now) (option_copied taken.entry) tactic.now reads.now.cited (resolution_value r)) }
+    ensures value { IfOk result (λ r. IsResolution (setup_value setup.now) (option_copied own.entry) (option_copied taken.entry) tactic.now reads.now.cited (resolution_value r)) }
     ensures runnable { IfOk result IsRunnableIf }
 {
     if let Some(unknown) = reads.first_unknown() {
@@ -56,7 +57,7 @@ pub(crate) fn resolve(
     }
     let parts = parts_of(alloc, tactic)?;
     let calls = calls_in(alloc, &parts)?;
-    if let Some(unfit) = first_unfit(setup, &calls, reads) {
+    if let Some(unfit) = first_unfit(setup, own, &calls, reads) {
         let unfit = String::from_str(alloc, unfit)?;
         return Ok(Resolution::Unresolved(RefusalKind::UnknownTac, unfit));
     }

@@ -36,7 +36,7 @@ pub(crate) fn name_tactic(
         return Ok(refused(alloc, RefusalKind::InProof));
     }
     let taken = taken_tac(alloc, setup, name, reads)?;
-    match resolve(alloc, setup, taken.as_ref(), tactic, reads)? {
+    match resolve(alloc, setup, Some(name), taken.as_ref(), tactic, reads)? {
         Resolution::Resolved(expr, basis, readings) => {
             name_resolved(alloc, setup, name, tactic, reads, &readings, expr, basis)
         }

@@ -14,6 +14,7 @@ ghost use Rattle.hol_exec.specs.Valid.{IsStatement, IsLeft, IsValidChange};
 use crate::reads::{Same, same_each};
 use crate::reports::RefusalKind;
 use crate::state::NewEntries;
+use crate::weight::basis_weight;
 use hol_goal::Goal;
 use hol_kernel::Basis;
 use hol_stack::SharedStep;
@@ -165,6 +166,19 @@ impl Outcome {
         ensures { MakesTheorems self.now }
     {
         let _ = self.change();
+    }
+
+    /// How much it holds, in nodes of terms, up to 2^32 - 1. What it shares counts too.
+    pub fn weight(&self) -> u32 {
+        match self.change() {
+            Change::Opens(_, statement, _) => statement.size(),
+            Change::Leaves(goal, step, basis) => goal
+                .size()
+                .saturating_add(step.weight())
+                .saturating_add(basis_weight(basis)),
+            Change::Makes(entries) => entries.weight(),
+            Change::Undoes | Change::Rotates(_) | Change::Refuses(_, _) => 1,
+        }
     }
 
     /// Whether both are the same: terms with their base names, and theorems with their bases.

@@ -167,7 +167,7 @@ fn apply_tactic(
             Tested::none(alloc),
         ));
     }
-    match resolve(alloc, setup, None, tactic, reads)? {
+    match resolve(alloc, setup, None, None, tactic, reads)? {
         Resolution::Resolved(expr, basis, _) => applied(alloc, setup, reads, names, &expr, basis),
         Resolution::Unresolved(kind, arg) => {
             Ok((Outcome::refuses(kind, arg), Tested::none(alloc)))

@@ -2,6 +2,7 @@
 ghost use Rattle.std.specs.Prelude.{◌≡◌, ◌<◌, ◌++◌, ◌↔◌, IsTrue, length, slice_get, option_copied, Some, IfOk, OnOk, OnErr};
 ghost use Rattle.hol_theory.specs.Adding.{AreNew, CanFollow};
 
+use crate::weight::entries_weight;
 use hol_theory::{Entries, Env, EnvError, Key, Value};
 use std::alloc::{AllocError, Global};
 use std::marker::Model;
@@ -59,6 +60,14 @@ impl NewEntries {
         match &self.held {
             Held::Listed(entries) => entries.len(),
             Held::Shared(env) => env.len(),
+        }
+    }
+
+    /// How much they hold, in nodes of terms, up to 2^32 - 1. Those that are another theory's are held there.
+    pub(crate) fn weight(&self) -> u32 {
+        match &self.held {
+            Held::Listed(entries) => entries_weight(entries),
+            Held::Shared(_) => 1,
         }
     }
 

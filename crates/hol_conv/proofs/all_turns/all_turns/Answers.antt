@@ -1,13 +1,12 @@
-use Rattle.std.proofs.Common.{rules, ◌≡◌, ◌-◌, ◌<◌, ◌≤◌, [], reverse, ap, sym, ◌∙◌, subst, Some, None}
+use Rattle.std.proofs.Common.{rules, ◌≡◌, ◌-◌, ◌<◌, ◌≤◌, [], reverse, ap, sym, ◌∙◌, Some, None}
 use Rattle.hol_terms.specs.Nameless.{nameless}
 use Rattle.hol_terms.specs.Size.{term_size}
 use Rattle.hol_conv.specs.Redexes.{contraction}
 use Rattle.hol_conv.specs.Turns.{turn, all_turns, finished}
-use Rattle.hol_conv.specs.Tracing.{IsAfter, Traces, redex_givens}
+use Rattle.hol_conv.specs.Tracing.{Traces, redex_givens}
 use Rattle.hol_conv.specs.Places.{whole}
 use Rattle.hol_conv.proofs.AllTurns.{all_end, all_limit, all_large, all_more}
 use Rattle.hol_conv.proofs.Places.{next_turn, no_next_turn}
-use Rattle.hol_conv.proofs.Tracing.{after_traces}
 use Rattle.hol_conv.proofs.all_turns.all_turns.Goals as goal
 
 -- no redex is there
@@ -62,14 +61,10 @@ turns-preserved c =
     let some : 0 < c.turns.left = search rules in
     let small : term_size [] (whole gs u) ≤ 20000 = search rules in
     let lands = c.in_ok-redex.ensures.lands in
-    let whole_is = c.in_ok-take.ensures.lands.same in
+    let whole_is = c.in_ok-put.ensures.lands.same in
     let part : Traces (redex_givens r) c.in-Some.redex.node.value m u = search rules in
-    let told = c.in_ok-take.ensures.traces in
-    let turned : Traces (redex_givens r) told.0 (whole fs n) (whole gs u) = subst (λ z. Traces (redex_givens r) told.0 z (whole gs u)) lands.same (told.1 r m u lands.stands.walked part) in
-    let after : IsAfter c.turns.node.value told.0 c.take.new.node = subst (λ z. IsAfter z told.0 c.take.new.node) c.deref_mut.ensures.value told.2 in
-    let traces = after_traces (redex_givens r) c.turns.node.value told.0 c.take.new.node (nameless [] c.args.term.now) (whole fs n) (whole gs u) after c.turns.invariant.traces turned in
     record {
       same = c.turns.invariant.same ∙ all_more r c.turns.left (whole fs n) (whole gs u) (next_turn r fs gs n m u lands redex) some small ∙ ap (all_turns (turn (contraction r) []) (c.turns.left - 1)) (sym whole_is);
-      stands = c.in_ok-take.ensures.lands.stands;
-      traces = subst (λ z. Traces (redex_givens r) c.take.new.node (nameless [] c.args.term.now) z) (sym whole_is) traces;
+      stands = c.in_ok-put.ensures.lands.stands;
+      led = c.in_ok-put.ensures.led (nameless [] c.args.term.now) part (c.in_ok-redex.ensures.led (nameless [] c.args.term.now) c.turns.invariant.led);
     }

@@ -2,7 +2,7 @@ use Rattle.std.proofs.Common.{◌≡◌, [], reverse}
 use Rattle.hol_terms.specs.Nameless.{nameless}
 use Rattle.hol_conv.specs.Redexes.{contraction}
 use Rattle.hol_conv.specs.Turns.{turn, all_turns}
-use Rattle.hol_conv.specs.Tracing.{Traces, redex_givens}
+use Rattle.hol_conv.specs.Kept.{HasLed}
 use Rattle.hol_conv.specs.Places.{whole, Stands}
 use Rattle.hol_conv.proofs.all_turns.all_turns.Given as goal
 
@@ -11,7 +11,7 @@ abbrev pub invariant-turns : goal.invariant-turns
 invariant-turns l = record {
   same : all_turns (turn (contraction l.redexes) []) l.turns (nameless [] l.term) ≡ all_turns (turn (contraction l.redexes) []) l.left (whole (reverse l.place.frames.items) (nameless [] l.place.part));
   stands : Stands l.redexes (reverse l.place.frames.items) (nameless [] l.place.part);
-  traces : Traces (redex_givens l.redexes) l.node.value (nameless [] l.term) (whole (reverse l.place.frames.items) (nameless [] l.place.part));
+  led : HasLed l.redexes (nameless [] l.term) l.place;
 }
 
 abbrev pub decreases-turns : goal.decreases-turns

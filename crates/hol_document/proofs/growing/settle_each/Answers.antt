@@ -10,7 +10,7 @@ settle-requires g c =
     let inv = c.loop-at.invariant in
     let left = inv.left c.requires.stood.0 c.requires.stood.1 c.requires.stood.2 c.requires.stood.3 c.requires.stood.4 in
     let here = slot_here (λ x. x.value) (setup_of c.args.runner.now) c.requires.stood.0 left.0 c.requires.stood.2 c.args.slots.now c.loop-at.at c.index-slots-at.result c.loop-at-test.true c.index-slots-at.is left.1 in
-    record { theories = c.requires.theories; stood = (c.requires.stood.0, left.0, rw inv.goes.0 here.0, left.2) }
+    record { theories = c.requires.theories; kept = c.in_ok-kept.ensures; stood = (c.requires.stood.0, left.0, rw inv.goes.0 here.0, left.2) }
 
 pub loop-at-preserved : goal.loop-at-preserved
 loop-at-preserved g c =

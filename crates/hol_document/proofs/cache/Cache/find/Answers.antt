@@ -17,4 +17,4 @@ returns-then-agrees c =
     subst (λ s. IsLocalOutcome s (constant_names c.args.env.now) (local_text c.args.command.now) c.args.reads.now.value (record { outcome = c.in_ok-outcome.outcome.value; tested = c.in_ok-tested.tested.value })) c.self.view_is
     (subst (λ l. IsLocalOutcome c.self.inside.setup.value (constant_names c.args.env.now) (local_text c.args.command.now) c.args.reads.now.value l) (λ i. record { outcome = sym outcome i; tested = sym tested i })
     (found_run c.self.inside.setup.value (constant_names c.args.env.now) run c.args.line.now.text c.args.line.now.value (local_text c.args.command.now) c.args.reads.now.value is c.parsed.ensures.read
-    (c.if-is_of.ensures.text refl) c.requires (c.if-is_of.ensures.reads refl ∙ c.deref.ensures) (search rules)))
+    (c.if-is_of.ensures.text refl) c.requires (c.if-is_of.ensures.reads refl ∙ c.deref-2.ensures) (search rules)))

@@ -1,0 +1,101 @@
+"""A course of ten exercises is given, done, watched and graded: a teacher and three students with browsers of their own, over `holls serve` and the program."""
+
+import re
+import subprocess
+import sys
+import unittest
+
+from tests import browser
+from tests.helpers import BUILT, HOLLS, SECONDS
+from tests.test_serve import COURSE, Served, free_port, python
+
+STUDENTS = ("ada", "ben", "cleo")
+
+
+@unittest.skipUnless(python() and browser.CHROMIUM and BUILT.exists(), "aiohttp, Chromium or hol_serve isn't here: no course is sat through")
+class Sitting(Served):
+    def setUp(self):
+        super().setUp()
+        self.port, self.kept = free_port(), self.room / "work"
+        self.begin()
+        self.browser = browser.Browser()
+        self.addCleanup(self.browser.stop)
+
+    def begin(self):
+        self.serve("--port", str(self.port), "--keep", str(self.kept), "--teacher-key", "secret", "--ahead", "1", program=str(BUILT))
+
+    def test_a_course_is_given_done_watched_and_graded(self):
+        pages = {name: self.student(name) for name in STUDENTS}
+        for file in ("implications", "equations", "quantifiers"):
+            for name, page in pages.items():
+                self.write(page, name, file)
+            if file == "implications":
+                self.start_anew(pages["ada"])
+        teacher = self.browser.apart("http://%s/teacher/secret" % self.host)
+        self.until(lambda: {name: (row[4], row[6]) for name, row in self.rows(teacher).items()} == {
+            "ada": ("", ""), "ben": ("implications: SWAP", "q"), "cleo": ("quantifiers: SOME", "")})
+        rows = self.rows(teacher)
+        self.assertEqual(rows["ada"][1:4], ["4 of 4", "3 of 3", "3 of 3"])
+        self.assertEqual(rows["ben"][1:4], ["3 of 4", "2 of 3", "0 of 3"])
+        self.assertEqual(rows["cleo"][1:4], ["0 of 4", "3 of 3", "2 of 3"])
+        for page in pages.values():
+            self.assertEqual(page.complaints, [])
+        for name in STUDENTS:
+            sent = {path.name: path.read_text() for path in (COURSE / "work" / name).glob("*.hol")}
+            self.until(lambda: self.texts(name) == sent)
+        self.assertEqual(self.graded("--work", str(self.kept)), self.graded())
+
+    def rows(self, teacher):
+        """What the teacher's page shows, by the students' names."""
+        teacher.go("http://%s/teacher/secret" % self.host)
+        shown = teacher.value("[...document.querySelectorAll('tbody tr')].map((row) => [...row.cells].map((cell) => cell.innerText))")
+        return {row[0]: row for row in shown}
+
+    def texts(self, name):
+        """What the server has kept of a student."""
+        return {path.name: path.read_text() for path in (self.kept / name).glob("*.hol")}
+
+    def student(self, name):
+        """A student's browser, in which the name was given."""
+        page = self.browser.apart("http://%s/course" % self.host)
+        page.value("document.querySelector('input[name=name]').focus()")
+        page.type(name)
+        page.click("button")
+        page.until("location.search === '?name=%s' && document.querySelector('input[name=name]').value === '%s'" % (name, name))
+        return page
+
+    def write(self, page, name, file):
+        """Opens an exercise by its link, and writes what the student has sent of it, if that is something."""
+        path = COURSE / "work" / name / (file + ".hol")
+        if path.is_file():
+            page.go("http://%s/course" % self.host)
+            page.click("a[href*='theory=%s.']" % file)
+            page.until("window.page && window.page.active && window.page.active.name === '%s' && window.page.manual" % file)
+            page.value("document.getElementById('text').focus(), document.getElementById('text').select()")
+            page.type(path.read_text())
+            page.until("window.page.isDone")
+
+    def start_anew(self, page):
+        """The server is started anew while a page is open, and that goes on by itself with what it had."""
+        text = page.value("document.getElementById('text').value")
+        self.process.terminate()
+        self.process.wait(SECONDS)
+        self.begin()
+        page.until("window.page.isDone && !document.querySelector('#goals.unknown')")
+        page.value("document.getElementById('text').focus(), document.getElementById('text').setSelectionRange(0, 0)")
+        page.type("(* back *) ")
+        page.until("window.page.isDone")
+        self.until(lambda: self.texts("ada").get("implications.hol") == "(* back *) " + text)
+        page.value("document.getElementById('text').focus(), document.getElementById('text').select()")
+        page.type(text)
+        page.until("window.page.isDone")
+
+    def graded(self, *words):
+        """What `holls grade` says of each exercise of each student."""
+        done = subprocess.run([sys.executable, str(HOLLS), "grade", str(COURSE), "--server", str(BUILT), *words], stdout=subprocess.PIPE, timeout=SECONDS)
+        self.assertEqual(re.findall(r"(?m)^\w+: .*proved$", done.stdout.decode()), ["ada: 10 of 10 proved", "ben: 5 of 10 proved", "cleo: 2 of 10 proved"])
+        return done.returncode, done.stdout
+
+
+if __name__ == "__main__":
+    unittest.main()

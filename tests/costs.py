@@ -1,0 +1,271 @@
+"""What requests cost, at three sizes each: the program's processor time may grow as n log n, where n is what a request looks at, and its memory stays
+below what docs/PROTOCOL.md says ('Limits').
+
+    python3 tests/costs.py [--only NAME] [--program PATH]
+
+Each case puts documents of a size into a program of its own, and then asks: only that is timed, by the processor's clock, the least of some tries. A quadratic cost
+would pass no case: the largest size is 16 times the smallest, so it would take 256 times as long, where n log n takes some 25. Times below `NOISE` are taken for that."""
+
+import argparse
+import dataclasses
+import json
+import math
+import resource
+import sys
+from typing import Callable, Iterator, List, Tuple
+
+import watched
+
+OK = b'{"ok":true}'
+MEMORY = b'"error":9'
+# Seconds that a machine at work may add to anything, and how many times as long as n log n something may take.
+NOISE, SLACK = 0.02, 2.5
+TRIES = 2
+
+
+class Cost(Exception):
+    """What a case found: the text says what was expected."""
+
+
+def request(op: str, **more: object) -> bytes:
+    return json.dumps({"op": op, **more}).encode()
+
+
+class Session:
+    """A program with one theory, `A`."""
+
+    def __init__(self, program: str, limits: Tuple[Tuple[int, int], ...] = ()):
+        self.server = watched.Watched(program, (), list(limits))
+        self.expect([request("new_theory", name="A", at=0)])
+        self.count = 0
+
+    def expect(self, lines: List[bytes]) -> None:
+        """All of these are carried out."""
+        replies = self.server.ask(lines)
+        wrong = [reply[:200] for reply in replies if reply != OK]
+        if wrong or len(replies) < len(lines):
+            raise Cost(f"{len(lines)} requests got {len(replies)} replies, not all done: {wrong[:1]}")
+
+    def put(self, texts: List[str], at: int = -1) -> None:
+        """Puts commands at the end, or one after the other at a place, where the last then stands first."""
+        first = self.count if at < 0 else at
+        self.expect([request("insert", theory="A", at=first + (k if at < 0 else 0), text=text) for k, text in enumerate(texts)])
+        self.count += len(texts)
+
+    def replace(self, at: int, text: str) -> None:
+        self.expect([request("replace", theory="A", at=at, text=text)])
+
+    def report(self, at: int) -> bytes:
+        replies = self.server.ask([request("report", theory="A", at=at)])
+        if len(replies) != 1:
+            raise Cost("the program ended at a report")
+        return replies[0]
+
+    def stands(self, at: int, word: bytes) -> None:
+        """The report on the command is of this kind."""
+        reply = self.report(at)
+        if not reply.startswith(b'{"' + word):
+            raise Cost(f"the report on command {at} is {reply[:200]!r}")
+
+    def seconds(self, do: Callable[[], object]) -> float:
+        before = self.server.seconds()
+        do()
+        return self.server.seconds() - before
+
+    def most_kilobytes(self) -> int:
+        return self.server.kilobytes("VmHWM")
+
+    def end(self) -> None:
+        self.server.end()
+
+
+# ---- cases whose time grows
+
+
+def goals_of_one_size(program: str, n: int) -> float:
+    """n edits of a large goal's statement, above a hundred steps: each runs these, whose outcomes leave under the same texts, and looks for one that left before."""
+    session = Session(program)
+    parts = " /\\ ".join(["c"] * 600)
+    session.put(["new_constant c `:bool`", *(f"new_constant d{k} `:bool`" for k in range(n)), f"g W `{parts} /\\ c`", *["e ALL_TAC"] * 100])
+    edits = [request("replace", theory="A", at=n + 1, text=f"g W `{parts} /\\ d{k}`") for k in range(n)]
+    took = session.seconds(lambda: session.expect(edits))
+    session.stands(n + 101, b"goals")
+    session.end()
+    return took
+
+
+def reports_of_names(program: str, n: int) -> float:
+    """A report on a goal of 400 variables, whose type has a name of n letters."""
+    session = Session(program)
+    name = "t" * n
+    session.put([f"new_type {name} 0", f"new_constant P `:{name} -> bool`"])
+    session.put(["g W `" + " /\\ ".join(f"P x{k}" for k in range(400)) + "`"])
+    took = session.seconds(lambda: session.stands(2, b"goals"))
+    session.end()
+    return took
+
+
+def turns_deep_in_a_term(program: str, n: int) -> float:
+    """Eight times n turns, each a level deeper in a term of n levels than the one before, and so many each a level less deep."""
+    session = Session(program)
+    tens = "q (" * 9 + "q a" + ")" * 9
+    session.put(["new_constant q `:bool->bool`", "new_constant p `:bool->bool`", "new_constant a `:bool`", f"new_axiom L `a <=> {tens}`",
+                 "new_axiom IN `p (q x) <=> q (p x)`", "new_axiom OUT `q (p x) <=> p (q x)`", "g W `p (a:bool)`", f"e REPLICATE_TAC {n // 10} (ONCE_REWRITE_TAC [L])"])
+    took = session.seconds(lambda: session.put(["e PURE_REWRITE_TAC [IN]", "e PURE_REWRITE_TAC [OUT]"] * 4))
+    session.stands(15, b"goals")
+    session.end()
+    return took
+
+
+# ---- cases that stay below a bound
+
+
+def edits_at_the_end(program: str, place: int) -> float:
+    """The time of 200 edits at the end of a theory of 960 commands, each of which was put at this place: 0, or at the end where it is below 0."""
+    session = Session(program)
+    for k in range(960):
+        session.put([f"new_constant c{k} `:bool`"], at=place)
+    edit = [request("insert", theory="A", at=960, text="?"), request("remove", theory="A", at=960)]
+    took = session.seconds(lambda: session.expect(edit * 100))
+    session.end()
+    return took
+
+
+def built_from_its_end(program: str) -> None:
+    """A theory that was built from its end keeps states as one that was built from its beginning: an edit begins at the last one before it."""
+    ahead, back = (min(edits_at_the_end(program, place) for _ in range(TRIES)) for place in (-1, 0))
+    if back > 2 * ahead + NOISE:
+        raise Cost(f"200 edits take {back:.3f} seconds where the theory was built from its end, {ahead:.3f} where from its beginning")
+
+
+
+def citations(program: str, n: int) -> float:
+    """The time of a step that cites n times a constant whose type has 1,300 variables."""
+    session = Session(program)
+    session.put(["new_constant c `:" + "->".join(f"A{k % 40}" for k in range(1_300)) + "`", "g W `T`"])
+    took = session.seconds(lambda: session.put(["e ALL_TAC ORELSE " + " ORELSE ".join(["ACCEPT_TAC (REFL `c`)"] * n)]))
+    session.stands(2, b"goals")
+    session.end()
+    return took
+
+
+def quoted_again(program: str) -> None:
+    """A quotation that stands 500 times in a command is typed once, which takes five times as long as the rule that is applied to it."""
+    once, often = (min(citations(program, n) for _ in range(TRIES)) for n in (1, 500))
+    if often > 150 * once + NOISE:
+        raise Cost(f"a quotation takes {once:.3f} seconds where it stands once, {often:.3f} where it stands 500 times")
+
+
+def long_replies(program: str) -> None:
+    """A report of more than 64 MiB is refused at once, and takes no more memory than that twice; the documents stand."""
+    session = Session(program)
+    name = "t" * 65_000
+    session.put([f"new_type {name} 0", f"new_constant P `:{name} -> bool`"])
+    session.put(["g W `" + " /\\ ".join(f"P x{k}" for k in range(1_200)) + "`"])
+    took = session.seconds(lambda: refused(session, 2))
+    if took > 1 or session.most_kilobytes() > 256 << 10:
+        raise Cost(f"a report that is too long took {took:.1f} seconds, {session.most_kilobytes() >> 10} MB")
+    session.stands(1, b"made")
+    session.end()
+
+
+def refused(session: Session, at: int) -> None:
+    reply = session.report(at)
+    if MEMORY not in reply:
+        raise Cost(f"a report of over 64 MiB is answered: {len(reply)} bytes")
+
+
+def heavy(session: Session, turns_each: int) -> Callable[[int], None]:
+    """A step whose outcome holds some megabyte for each of its turns there and back; what is given replaces it by a like one, with so many spaces."""
+    parts = " /\\ ".join(["a"] * 1_300)
+    turns = " THEN ".join(["SUBST1_TAC AB", "SUBST1_TAC BA"] * turns_each)
+    session.put(["new_constant a `:bool`", "new_constant b `:bool`", "new_axiom AB `a <=> b`", "new_axiom BA `b <=> a`", f"g W `{parts}`", f"e {turns}"])
+    session.stands(5, b"goals")
+    return lambda spaces: session.replace(5, f"e {' ' * spaces}{turns}")
+
+
+def heavy_outcomes(program: str) -> None:
+    """Outcomes that have left the documents hold 400 MB at the most: a few that are heavy by themselves, and many that are together."""
+    for turns_each, edits, most in ((200, 8, 800), (50, 20, 500)):
+        session = Session(program)
+        replaced = heavy(session, turns_each)
+        for spaces in range(1, edits + 1):
+            replaced(spaces)
+        megabytes = session.most_kilobytes() >> 10
+        if megabytes > most:
+            raise Cost(f"{edits + 1} outcomes of {turns_each} turns there and back, of which two stand at once, take {megabytes} MB")
+        session.end()
+
+
+def little_space(program: str) -> None:
+    """With 1 GB of addresses, each heavy edit is carried out, at the second try if not at the first: the memory line empties what is kept."""
+    session = Session(program, ((resource.RLIMIT_AS, 1 << 30),))
+    replaced = heavy(session, 200)
+    for spaces in range(1, 9):
+        try:
+            replaced(spaces)
+        except Cost:
+            replaced(spaces)
+    session.end()
+
+
+GROWING: List[Tuple[Callable[[str, int], float], List[int]]] = [
+    (goals_of_one_size, [8, 32, 128]),
+    (reports_of_names, [2_000, 8_000, 32_000]),
+    (turns_deep_in_a_term, [240, 960, 3_840]),
+]
+BOUNDED: List[Callable[[str], None]] = [built_from_its_end, quoted_again, long_replies, heavy_outcomes, little_space]
+
+
+@dataclasses.dataclass
+class Found:
+    """What was found of a case: its name, what it took, and what is wrong, if anything is."""
+
+    name: str
+    said: str
+    fault: str
+
+
+def grown(case: Callable[[str, int], float], sizes: List[int], program: str) -> Found:
+    """Each size is compared with the smallest."""
+    took = [min(case(program, n) for _ in range(TRIES)) for n in sizes]
+    said = ", ".join(f"{n}: {seconds * 1000:.1f} ms" for n, seconds in zip(sizes, took))
+    least = max(took[0], NOISE)
+    for n, seconds in zip(sizes, took):
+        may = SLACK * least * n * math.log(n) / (sizes[0] * math.log(sizes[0]))
+        if seconds > may:
+            return Found(case.__name__, said, f"{n} takes {seconds:.3f} seconds, over {may:.3f}")
+    return Found(case.__name__, said, "")
+
+
+def found(program: str, only: str) -> Iterator[Found]:
+    for case, sizes in GROWING:
+        if only in ("", case.__name__):
+            try:
+                yield grown(case, sizes, program)
+            except Cost as cost:
+                yield Found(case.__name__, "", str(cost))
+    for bounded in BOUNDED:
+        if only in ("", bounded.__name__):
+            try:
+                bounded(program)
+                yield Found(bounded.__name__, "within its bound", "")
+            except Cost as cost:
+                yield Found(bounded.__name__, "", str(cost))
+
+
+def main() -> int:
+    parser = argparse.ArgumentParser(description=(__doc__ or "").splitlines()[0])
+    parser.add_argument("--only", default="")
+    parser.add_argument("--program", default=str(watched.BUILT))
+    given = parser.parse_args()
+    cases = list(found(given.program, given.only))
+    for case in cases:
+        print(f"{case.name}: {case.fault or case.said}")
+    faults = sum(bool(case.fault) for case in cases)
+    print(f"costs: {len(cases) - faults} passed, {faults} failed")
+    return 1 if faults or not cases else 0
+
+
+if __name__ == "__main__":
+    sys.exit(main())
