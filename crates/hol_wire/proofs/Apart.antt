@@ -14,7 +14,7 @@ use Rattle.serde_json.specs.Data.{string}
 use Rattle.serde_json.specs.View.{items_of}
 use Rattle.serde_json.specs.Written.{compact_text, outline, items_outline}
 use Rattle.serde_json.proofs.Texts.{print-outline}
-use Rattle.hol_print.specs.ShowGoal.{GoalText}
+use Rattle.hol_exec.specs.ShowGoal.{GoalText}
 use Rattle.hol_exec.specs.Refusal.{kind_number}
 use Rattle.hol_exec.specs.declared.reports.refusal.RefusalKind.{RefusalKind}
 use Rattle.hol_exec.specs.declared.reports.refusal.RefusalKind.TheVariants as kind
