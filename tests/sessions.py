@@ -379,6 +379,43 @@ def of_nested_lists():
     return session
 
 
+def of_states_kept():
+    """A state is kept at each 32nd command. Commands behind it go back beyond it, and are changed, put in and taken out: what they come to begins from it each time."""
+    session, names = Session("goes back beside a state that is kept"), [f"p{number:02}" for number in range(40)]
+    commands = [f"g N `{' ==> '.join(names)}`", *["e DISCH_TAC"] * 39, *["b"] * 20]
+
+    def ask(*places):
+        for at in places:
+            done = steps_taken(commands[: at + 1])
+            goal = {"asl": names[:done][::-1], "free": [f"{name}:bool" for name in names], "goal": " ==> ".join(names[done:])}
+            session.add(request("report", theory="A", at=at), json.dumps({"goals": [goal], "ok": True}, separators=(",", ":")))
+
+    session.theory("A", commands)
+    ask(31, 32, 39, 46, 47, 48, 59)
+    for at, text in ((59, "e DISCH_TAC"), (40, "e ALL_TAC"), (33, "b"), (31, "b")):
+        session.add(request("replace", theory="A", at=at, text=text), OK)
+        commands[at] = text
+        ask(31, 32, 33, 58, 59)
+    session.add(request("remove", theory="A", at=33), OK)
+    del commands[33]
+    ask(32, 33, 58)
+    session.add(request("insert", theory="A", at=32, text="e DISCH_TAC"), OK)
+    commands.insert(32, "e DISCH_TAC")
+    ask(31, 32, 33, 59)
+    return session
+
+
+def steps_taken(commands):
+    """How many implications are taken apart after a goal's commands."""
+    history = [0]
+    for text in commands[1:]:
+        if text == "b":
+            history.pop()
+        else:
+            history.append(history[-1] + (text == "e DISCH_TAC"))
+    return history[-1]
+
+
 def of_chained_names(turns, want):
     """1,000 expressions, each of which is the name of the one before it, have one node each and take a turn each."""
     session = Session(f"runs 1,000 names in a chain, {turns} turns", ["--turns", str(turns)])
@@ -407,6 +444,7 @@ def generated():
     yield of_nested_lists()
     yield of_chained_names(1_001, shows("p", "p:bool"))
     yield of_chained_names(1_000, TURN_LIMIT)
+    yield of_states_kept()
     yield of_cycles()
     yield of_a_long_reply()
     yield of_texts_at_limits()
