@@ -7,7 +7,8 @@
 
 The definitions that have to be believed are those that the contracts of some functions name, and what these name, and so on (tests/antt.py). They
 stand in three tiers, each without what stands in those before. tests/definitions.txt has sentences for files and definitions; where it has none,
-the comment at a file's head or above a definition is taken."""
+the comment at a file's head or above a definition is taken. Of the first tier the list has the definitions themselves, each behind those that it names,
+and what its words of std mean, so that it can be read as one text."""
 
 import argparse
 import dataclasses
@@ -81,10 +82,14 @@ and tie only what is equal, so that finite sets by them are sets as one means it
 `instances_are_substitutions` (crates/hol_formulas/src/prelude.rt): a type is an instance of another exactly where some substitution for its type variables gives
 it. They aren't counted among the tier's lines."""
 LARGEST_FIRST_TIER = 600
+STD = "std"  # Begins the keys of sentences for words of std.
+OF_WORDS = """Each definition stands behind those that it names, but for the last section, with its text as it stands in the file. How it is read is in
+[READING_CONTRACTS](../docs/READING_CONTRACTS.md); a fact is the type of what shows it, and holds where that type has a value: a value of `Derives` is a
+derivation. Words of the toolchain's std:"""
 
 
 class Sentences:
-    """What tests/definitions.txt says: of 'CRATE/FILE', and of 'CRATE/FILE NAME'."""
+    """What tests/definitions.txt says: of 'CRATE/FILE', of 'CRATE/FILE NAME', and of 'std NAME, NAME', words of std that the first tier has."""
 
     def __init__(self, text):
         self.of, key, file = {}, "", ""
@@ -139,6 +144,12 @@ def count(number, word):
     return f"{number:,} {word}" + ("" if number == 1 else "s")
 
 
+def word_of(path):
+    """The word of std, or of a type that is declared in Rust, at a path; of a type's variants the type."""
+    parts = path.split(".")
+    return parts[parts.index("TheVariants") - 1] if "TheVariants" in parts else parts[-1]
+
+
 def as_sentence(text):
     return text if text.endswith((".", ":")) else (text or "(no sentence)") + "."
 
@@ -176,8 +187,10 @@ class Definitions:
         """Definitions and files without a sentence, and sentences for what isn't reached."""
         known = {d.key for d in self.all} | {d.key.split(" ")[0] for d in self.all}
         for key in self.sentences.of:
-            if key not in known:
+            if key not in known and key.split(" ")[0] != STD:
                 yield f"tests/definitions.txt has a sentence for {key}, which isn't reached"
+        yield from self.faults_of_words()
+        yield from self.faults_of_order()
         for key in DECIDED:
             if not any(key in (d.key, d.key.split(" ")[0]) for d in self.decided):
                 yield f"the first tier hasn't {key}, which laws are to decide"
@@ -189,6 +202,34 @@ class Definitions:
                     yield f"{d.key}: the file has no sentence"
                 if tier.each_has_a_sentence and not self.of_definition(d):
                     yield f"{d.key} has no sentence, neither a comment in its file nor a line of tests/definitions.txt"
+
+    def first_tier(self):
+        """What counts as the first tier's, in the order of the page."""
+        return [d for crate, inside in self.by_crate(self.counted(0)) for _, found in self.files(inside, crate) for d in found]
+
+    def faults_of_words(self):
+        """Words of std in the first tier without a sentence, and sentences for others."""
+        met = {word_of(path) for d in self.counted(0) for path in self.library.named_by(d)[1]}
+        told = [name for key in self.sentences.of if key.startswith(STD + " ") for name in key[len(STD) + 1 :].split(", ")]
+        for name in sorted(met ^ set(told)):
+            yield f"the word {name} of std stands in the first tier, and tests/definitions.txt doesn't say what it means" if name in met else f"{name} doesn't stand in the first tier"
+
+    def faults_of_order(self):
+        """Definitions of the first tier that stand before one that they name, and that doesn't name them."""
+        listed = self.first_tier()
+        place = {d: number for number, d in enumerate(listed)}
+        for d in listed:
+            for other in self.library.named_by(d)[0]:
+                if place.get(other, -1) > place[d] and d not in self.library.reached({other})[0]:
+                    yield f"{d.key} stands before {other.key}, which it names"
+
+    def text_of(self, definition):
+        """A definition's lines as they stand in its file, with the comments in between."""
+        lines = (CRATES / definition.crate / "specs" / definition.file).read_text(encoding="utf-8").splitlines()
+        first, last = min(definition.lines), max(definition.lines)
+        inside = [lines[n - 1] for n in range(first, last + 1) if n in definition.lines or lines[n - 1].lstrip().startswith("--")]
+        indent = len(inside[0]) - len(inside[0].lstrip())
+        return [line[indent:] for line in inside]
 
     def of_file(self, module):
         crate, _, path = module.split(".", 2)
@@ -225,11 +266,12 @@ class Definitions:
         for number, tier in enumerate(TIERS):
             lines += ["", f"## {number + 1}. {tier.title}", ""]
             lines += filled(self.of_tier(number, tier))
+            lines += ["", *filled(OF_WORDS), "", *self.of_words()] if tier.each_has_a_sentence else []
             before = {d.module for d in set().union(set(), *self.tiers[:number])}
             for crate, inside in self.by_crate(self.counted(number)):
                 lines += ["", f"### {crate}, {self.size(inside)}", ""]
                 for module, found in self.files(inside, crate):
-                    lines += self.of_module(tier, module, found, module in before)
+                    lines += self.of_module(tier, module, found, module in before, tier.each_has_a_sentence)
             lines += self.of_decided(tier) if number == 0 else []
         return [*lines, *self.of_foreign(), *self.of_the_rest()]
 
@@ -258,7 +300,18 @@ class Definitions:
             return text + ". Reached by way of `run` of hol_combine alone, which says what an expression does to a goal."
         return text + ". The contracts that they begin at, with the words of these: " + "; ".join(begins) + "."
 
-    def of_module(self, tier, module, definitions, again):
+    def of_words(self):
+        """What the words of std mean that stand in the first tier."""
+        lines = []
+        for key, sentence in self.sentences.of.items():
+            if key.startswith(STD + " "):
+                names = ", ".join(f"`{name}`" for name in key[len(STD) + 1 :].split(", "))
+                lines += filled(f"{names}: {as_sentence(sentence)}", "- ", "  ")
+        used = set().union(*(self.library.named_by(d)[0] for d in self.counted(0))) & self.decided
+        told = "; ".join(f"`{d.name}`, {self.of_definition(d)}" for d in sorted(used, key=lambda d: d.name.lower()))
+        return [*lines, *filled(f"Of the last section: {told}.", "- ", "  ")]
+
+    def of_module(self, tier, module, definitions, again, in_full=False):
         crate, _, path = module.split(".", 2)
         file = path.replace(".", "/") + ".antt"
         link = f"[{file}](../crates/{crate}/specs/{file})"
@@ -267,7 +320,8 @@ class Definitions:
             for d in definitions:
                 cases = [c for c, types in self.library.modules[module].constructors.items() if d in types]
                 of_cases = f" ({', '.join(f'`{c}`' for c in cases)})" if cases else ""
-                lines += filled(f"`{d.name}`{of_cases}: {as_sentence(self.of_definition(d))}", "- ", "  ")
+                sentence = f"`{d.name}`{of_cases}: {as_sentence(self.of_definition(d))}"
+                lines += [*filled(sentence), "", "```antt", *self.text_of(d), "```", ""] if in_full else filled(sentence, "- ", "  ")
             return [*lines, ""]
         words = ", ".join(f"`{d.name}`" for d in definitions)
         text = f"More of {link}. Words: {words}." if again else f"**{link}.** {as_sentence(self.of_file(module))} Words: {words}."
