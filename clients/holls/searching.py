@@ -12,20 +12,22 @@ from holls import check, checking, names, protocol, search, server
 from holls.checking import SERVED, Unit
 from holls.files import File
 from holls.names import PRELUDE, THEOREM, Known
+from holls.projects import LIBRARY
 from holls.say import complain, say
 from holls.session import Session
 from holls.sweep import Sweep
 from holls.view import View
 
 NONE, BROKEN = 1, 2
+ELSEWHERE = ": none of the files that are searched declares or imports it; --in FILE searches others"
 
 
 def add_words(parser: argparse.ArgumentParser) -> None:
     """The words of the command line."""
     parser.add_argument("query", nargs="+", metavar="QUERY", help="parts of names; or a pattern of the statement, as '_ /\\ _ ==> _', "
                         "beside names between backquotes")
-    parser.add_argument("--in", dest="files", action="append", metavar="FILE", help="a file or folder to search (the folder one works in); "
-                        "may be given again")
+    parser.add_argument("--in", dest="files", action="append", metavar="FILE", help="a file or folder to search (the folder one works in; "
+                        "where it has no files, the library); may be given again")
     parser.add_argument("--conclusion", action="store_true", help="the pattern is of the whole statement or of what it concludes, of no part")
     parser.add_argument("--written", action="store_true", help="take the statements as they are written, proved or not, without the program")
     parser.add_argument("--server", metavar="PROGRAM", help="the program hol_serve")
@@ -36,12 +38,14 @@ def add_words(parser: argparse.ArgumentParser) -> None:
 def main(given: argparse.Namespace) -> int:
     """Writes the theorems found, the best first: status 0 where there are some, 1 where none, 2 where nothing can be searched."""
     try:
-        units = _once(checking.units(check.ordered(_files(given.files))))
+        paths = _files(given.files)
+        units = _once(checking.units(check.ordered(paths or [LIBRARY])))
         view = View.of_all(unit.file for unit in units)
         asked = search.query(" ".join(given.query), given.conclusion, view)
-        known = PRELUDE + list(_written(units) if given.written else _standing(units, server.find(given.server), given.seconds))
+        as_written = given.written or not paths  # The library stands as it is written, and to run it takes a while.
+        known = PRELUDE + list(_written(units) if as_written else _standing(units, server.find(given.server), given.seconds))
     except (search.BadQuery, check.CannotCheck, server.NoServer) as error:
-        complain(error)
+        complain("%s%s" % (error, ELSEWHERE if str(error).endswith("begins no symbol") else ""))
         return BROKEN
     found = search.Index().find(asked, known)
     for one in found:
@@ -50,7 +54,7 @@ def main(given: argparse.Namespace) -> int:
 
 
 def _files(named: Optional[List[str]]) -> List[str]:
-    """The files and folders that are named; else the folder that one works in, if it has files."""
+    """The files and folders that are named; else the folder that one works in, or none where it has no files."""
     if named:
         return named
     return ["."] if any(name.endswith(check.SUFFIX) for _, _, below in os.walk(".") for name in below) else []

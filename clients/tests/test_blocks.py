@@ -1,7 +1,7 @@
 """The blocks of commands in pages: each is run, and what the page shows behind one is what the reader sees.
 
 A block ```hol has the next commands of the page's file. A block ```hol fails has commands that are tried there and taken out again: one is refused.
-A block ```shown behind the first kind is what the goal window shows at its last command, behind the second what the checker says of its errors.
+A block ```shown behind one is what the goal window shows at its last command.
 """
 
 import pathlib
@@ -42,8 +42,6 @@ def places(page: str) -> Tuple[List[Place], str]:
 
 def said_of(file, place):
     """What is shown of a place, over its checked file."""
-    if place.fails:
-        return "".join("error: %s\n" % one.text for one in findings(file) if one.severity == Severity.ERROR and one.start >= place.start)
     last = max(number for number, command in enumerate(file.commands) if command.start < len(place.text))
     return re.sub(r"[ \t]+$", "", goals.text(goals.state(file, last)), flags=re.M)
 
@@ -74,7 +72,8 @@ class Blocks(unittest.TestCase):
         for number, place in enumerate(found):
             file = units["fails_%d" % number if place.fails else "kept"].file
             said = said_of(file, place)
-            self.assertFalse(place.fails and not said, "%s: nothing of this fails: %s" % (page, place.text[place.start:]))
+            refused = [one for one in findings(file) if one.severity == Severity.ERROR and one.start >= place.start]
+            self.assertEqual(bool(refused), place.fails, "%s: %s" % (page, place.text[place.start:]))
             if place.shown:
                 self.assertEqual(said, place.shown, "%s, behind %s" % (page, place.text[place.start:]))
 

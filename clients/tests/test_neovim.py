@@ -40,9 +40,15 @@ class InNeovim(unittest.TestCase):
         self.assertEqual(sorted(places), [[3, 3], [4, 1], [6, 5], [7, 1], [8, 1], [9, 1]])
         self.assertEqual(found["an error in a file of CRLF lines"]["said"][0][:2], [5, 1])
 
-    def run_in(self, folder):
+    def test_the_goal_window_of_a_new_file_is_filled_once_the_bridge_has_begun(self):
+        with tempfile.TemporaryDirectory() as name:
+            begun = self.run_in(pathlib.Path(name), BEGIN="yes")["begun"]
+        self.assertEqual([one for one in begun if "no answer" in one], [])
+        self.assertEqual(begun[-1], "no proof is open", begun)
+
+    def run_in(self, folder, **more):
         server = fake(folder, "--fault", "die:2950", "--once", str(folder / "once"))
-        given = dict(os.environ, FOLDER=str(folder), RESULTS=str(folder / "results"), PYTHON=sys.executable, HOLLS=str(HOLLS), SERVER=server,
+        given = dict(os.environ, **more, FOLDER=str(folder), RESULTS=str(folder / "results"), PYTHON=sys.executable, HOLLS=str(HOLLS), SERVER=server,
                      XDG_STATE_HOME=str(folder), XDG_DATA_HOME=str(folder), XDG_CONFIG_HOME=str(folder))
         words = [NVIM, "--headless", "-u", "NONE", "-i", "NONE", "--cmd", "set rtp^=%s noswapfile" % (CLIENTS / "neovim"),
                  "-S", str(CLIENTS / "tests" / "neovim.lua")]

@@ -7,6 +7,7 @@ import pathlib
 import re
 import shutil
 import subprocess
+import sys
 import tempfile
 import unittest
 import xml.dom.minidom
@@ -46,25 +47,39 @@ class Package(unittest.TestCase):
         self.assertNotIn(b"there is no file one.hol", ran.stdout)
         self.assertIn(b"there is no file no_such_theory.hol", ran.stdout, ran.stderr)
 
-    def test_the_package_for_python_names_all_folders(self):
-        text = (ROOT / "pyproject.toml").read_text(encoding="utf-8")
-        named = set(re.findall(r'"(holls[\w.]*)"', re.search(r"^packages = \[(.*?)\]", text, re.M | re.S).group(1)))
-        folders = {".".join(path.parent.relative_to(CLIENTS).parts) for path in (CLIENTS / "holls").rglob("__init__.py")}
-        self.assertEqual({name for name in named if not name.startswith("holls.data.")}, folders)
+    def test_the_package_for_python_has_all_files_and_finds_the_library(self):
+        with tempfile.TemporaryDirectory() as name:
+            folder = pathlib.Path(name)
+            words = [*PYTHON, "-c", "import sys; sys.path.insert(0, sys.argv[1]); import wheels; print(wheels.build_wheel(sys.argv[2]))"]
+            ran = subprocess.run([*words, str(CLIENTS), name], check=True, capture_output=True, timeout=SECONDS)
+            with zipfile.ZipFile(folder / ran.stdout.decode().strip()) as wheel:
+                wheel.extractall(folder / "made")
+                inside = wheel.namelist()
+                record = wheel.read("hol_serve-0.1.0.dist-info/RECORD").decode().splitlines()
+                said = wheel.read("hol_serve-0.1.0.dist-info/METADATA").decode()
+            self.assertEqual([line.split(",")[0] for line in record], inside)
+            self.assertEqual({one for one in inside if one.endswith(".py")},
+                             {path.relative_to(CLIENTS).as_posix() for path in (CLIENTS / "holls").rglob("*.py")})
+            self.assertLessEqual({"holls/data/page/index.html", "holls/data/theories/sets.hol", "holls/data/release/about.json"}, set(inside))
+            self.assertIn("\nRequires-Dist: aiohttp>=3.8 ; extra == 'serve'\n", said)
+            self.finds_the_library(folder, [*PYTHON[:1], "-m", "holls"], env=dict(os.environ, PYTHONPATH=str(folder / "made")))
 
-    @unittest.skipUnless(importlib.util.find_spec("setuptools"), "setuptools isn't installed")
-    def test_the_package_for_python_is_made_and_finds_the_library(self):
+    @unittest.skipUnless(importlib.util.find_spec("pip"), "pip isn't installed")
+    def test_pip_installs_it_without_a_network(self):
+        """Where an index would be asked, there is none: nothing is fetched, setuptools neither."""
         with tempfile.TemporaryDirectory() as name:
             tree, made = pathlib.Path(name) / "tree", pathlib.Path(name) / "made"
             tree.mkdir()
-            for one in ("pyproject.toml", "setup.cfg", "README.md", "LICENSE", "build"):
+            for one in ("pyproject.toml", "README.md", "LICENSE", "build"):
                 shutil.copy(str(ROOT / one), str(tree))
-            for one in ("clients/holls", "theories", "page", "release"):
-                shutil.copytree(str(ROOT / one), str(tree / one), ignore=shutil.ignore_patterns("__pycache__"))
-            words = [*PYTHON[:1], "-W", "ignore", "-c", "import setuptools; setuptools.setup()", "-q", "build", "--build-lib", str(made)]
-            subprocess.run(words, cwd=str(tree), check=True, capture_output=True, timeout=SECONDS)
-            self.assertTrue((made / "holls" / "data" / "page" / "index.html").is_file())
-            self.finds_the_library(pathlib.Path(name), [*PYTHON[:1], "-m", "holls"], env=dict(os.environ, PYTHONPATH=str(made)))
+            for one in ("clients", "theories", "page", "release"):
+                shutil.copytree(str(ROOT / one), str(tree / one), ignore=shutil.ignore_patterns("__pycache__", "tests", "out"))
+            words = [sys.executable, "-m", "pip", "install", "-q", "--disable-pip-version-check", "--no-index", "--no-deps", "--target", str(made), "."]
+            empty = {key: value for key, value in os.environ.items() if not key.startswith(("PIP_", "PYTHON"))}
+            ran = subprocess.run(words, cwd=str(tree), env=empty, capture_output=True, timeout=SECONDS)
+            self.assertEqual(ran.returncode, 0, ran.stderr.decode())
+            self.assertIn("holls.__main__", (made / "bin" / "holls").read_text())
+            self.finds_the_library(pathlib.Path(name), [*PYTHON[:1], "-m", "holls"], env=dict(empty, PYTHONPATH=str(made)))
 
 
 class Recipes(unittest.TestCase):

@@ -66,6 +66,27 @@ COMMANDS_OF = {
 test of its own."""
 
 
+OWN_WORK = r"""g MORE `!l x a. RUN x (COMPILE l) a = VALUE x l + a * x EXP LENGTH l`;;
+e REWRITE_TAC [COMPILE] THEN MATCH_MP_TAC LIST_INDUCT THEN BETA_TAC THEN CONJ_TAC;;
+  e REWRITE_TAC [REVERSE; RUN; VALUE; LENGTH; EXP; ADD_CLAUSES; MULT_CLAUSES; FORALL_SIMP];;
+e REPEAT STRIP_TAC THEN ASM_REWRITE_TAC [REVERSE; RUN_APPEND; RUN; VALUE; LENGTH; EXP; LEFT_ADD_DISTRIB; ADD_ASSOC; MULT_ASSOC];;
+e SUBST1_TAC (SPEC `a:num` (SPEC `x:num` MULT_SYM)) THEN REFL_TAC;;
+qed;;
+new_definition SCALED_DEF `SCALED k l = list_REC [] (\c t r. CONS (k * c) r) l`;;
+g SCALED `(!k. SCALED k [] = []) /\ (!k c t. SCALED k (CONS c t) = CONS (k * c) (SCALED k t))`;;
+e REWRITE_TAC [SCALED_DEF; list_REC] THEN BETA_TAC THEN REWRITE_TAC [FORALL_SIMP];;
+qed;;
+g VALUE_SCALED `!l k x. VALUE x (SCALED k l) = k * VALUE x l`;;
+e MATCH_MP_TAC LIST_INDUCT THEN BETA_TAC THEN CONJ_TAC;;
+  e REWRITE_TAC [SCALED; VALUE; MULT_CLAUSES; FORALL_SIMP];;
+e REPEAT STRIP_TAC THEN ASM_REWRITE_TAC [SCALED; VALUE; LEFT_ADD_DISTRIB; MULT_ASSOC];;
+e SUBST1_TAC (SPEC `k:num` (SPEC `x:num` MULT_SYM)) THEN REFL_TAC;;
+qed;;
+define PLUS2 `PLUS2 [] m = m /\ PLUS2 (CONS h t) [] = CONS h t /\ PLUS2 (CONS h t) (CONS k u) = CONS (h + k) (PLUS2 t u)`;;
+"""
+"""What the tutorial leaves to its reader, done: so the names are free, and the theorems that it names do."""
+
+
 class Block(NamedTuple):
     """A block of a page: the heading that it stands under, its language where it is fenced, and its text without the margin."""
 
@@ -210,6 +231,12 @@ class Said(InFolder):
         self.assertEqual((status, len(said.splitlines())), (0, len(wanted)), said)
         for line, shown in zip(said.splitlines(), wanted):
             self.assertRegex(line, "^%s$" % re.escape(shown).replace(r"\.\.", ".*"))
+
+    def test_what_the_tutorial_leaves_to_the_reader(self):
+        text = (ROOT / "docs" / "TUTORIAL.md").read_text(encoding="utf-8")
+        for named in ("`SCALED k l`", "`!l k x. VALUE x (SCALED k l) = k * VALUE x l`", "RUN x (COMPILE l) a = VALUE x l"):
+            self.assertIn(named, text)
+        self.accepted("first", "".join(body for kind, body in FENCE.findall(text) if kind == "hol") + OWN_WORK)
 
     def test_a_proof_is_found_as_shown(self):
         page = (ROOT / "docs" / "EDITORS.md").read_text(encoding="utf-8")

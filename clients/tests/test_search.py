@@ -108,6 +108,17 @@ class AsAProgram(unittest.TestCase):
             done = subprocess.run(ask + ["--written", "--json", "infinity"], cwd=folder, capture_output=True, timeout=SECONDS)
             self.assertIn(b'{"file": "prelude", "line": 0, "name": "INFINITY_AX"', done.stdout)
 
+    def test_the_library_is_searched_where_there_is_no_file(self):
+        with tempfile.TemporaryDirectory() as name:
+            ask = [*PYTHON, str(HOLLS), "search", "_ <= _ + _"]
+            done = subprocess.run(ask, cwd=name, capture_output=True, timeout=SECONDS)
+            self.assertIn("LE_ADD |- !m n. m <= m + n", done.stdout.decode(), done.stderr)
+            (pathlib.Path(name) / "A.hol").write_text("g ONE_THM `x = x`;;\ne REFL_TAC;; qed;;\n")
+            done = subprocess.run([*ask, "--written"], cwd=name, capture_output=True, timeout=SECONDS)
+            self.assertEqual((done.returncode, done.stderr.decode().splitlines()), (2, [
+                "holls: the pattern can't be read: `<` begins no symbol: none of the files that are searched declares or imports it; "
+                "--in FILE searches others"]))
+
     def test_a_file_of_two_projects_is_searched_once(self):
         with tempfile.TemporaryDirectory() as name:
             folder = pathlib.Path(name)

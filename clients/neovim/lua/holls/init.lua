@@ -22,8 +22,9 @@ local function client()
   return client_id and vim.lsp.get_client_by_id(client_id) or nil
 end
 
+-- Whether the bridge knows the current buffer: before it has begun, it would answer that no such document is open.
 local function here_is_hol()
-  return vim.bo.filetype == 'hol' and client() ~= nil
+  return vim.bo.filetype == 'hol' and client() ~= nil and client().initialized == true
 end
 
 local function position()
@@ -48,7 +49,11 @@ end
 
 -- Asks for the goals at the cursor. Of several answers under way only the last one asked for is shown.
 function M.update()
-  if not (here_is_hol() and window()) then
+  if vim.bo.filetype ~= 'hol' or not window() then
+    return
+  end
+  if not here_is_hol() then
+    show(client() and 'not known yet: holls begins' or 'holls has ended: :HolRestart starts it again')
     return
   end
   goals.asked = goals.asked + 1
@@ -177,6 +182,9 @@ local function config()
     root_dir = vim.fn.getcwd(),
     flags = { debounce_text_changes = 50 },
     capabilities = vim.lsp.protocol.make_client_capabilities(),
+    on_attach = function()
+      vim.schedule(M.update)
+    end,
     handlers = {
       ['textDocument/publishDiagnostics'] = function(...)
         vim.lsp.handlers['textDocument/publishDiagnostics'](...)
