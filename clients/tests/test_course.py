@@ -5,11 +5,13 @@ import io
 import json
 import os
 import pathlib
+import re
 import subprocess
 import sys
 import tempfile
 import unittest
 
+from holls import projects
 from holls.course import layout, table
 from holls.course.exercises import BadExercise, asked, exercises, given_up
 from holls.course.judging import Task, judged
@@ -257,6 +259,14 @@ class Grade(Kept):
         made = pathlib.Path(tempfile.mkdtemp(dir=self.kept)) / "table.csv"
         self.assertEqual(self.grade("--csv", str(made))[0], 0)
         self.assertEqual(made.read_text(), (self.folder / "table.csv").read_text())
+
+    def test_in_an_editor_its_exercises_find_its_theories(self):
+        """As they were not for a student, who was told that there is no such file."""
+        for path in sorted((ROOT / "examples" / "course" / "exercises").glob("*.hol")):
+            project = projects.Projects().of(str(path))
+            self.assertIsNone(project.error)
+            for name in re.findall(r"^import (\w+);;", path.read_text(), re.M):
+                self.assertIsInstance(project.find(name), str, "%s: %s" % (path.name, name))
 
     def test_an_exercise_that_cant_be_read_is_the_teachers_error(self):
         self.put(exercises__first_dot_hol="g WRONG `x x`;;\nsorry;;\n", work__ann__x="")
