@@ -28,6 +28,7 @@ import lines as counting  # noqa: E402 (bench/lines.py)
 
 CRATES = ROOT / "crates"
 SENTENCES = ROOT / "tests" / "definitions.txt"
+WEAKER = ROOT / "tests" / "weaker"
 LISTS = ROOT / "out" / "DEFINITIONS.md"
 LINES = ROOT / "out" / "LINES.md"
 CALLS = ROOT / "out" / "CONTRACTS.md"
@@ -83,9 +84,23 @@ and tie only what is equal, so that finite sets by them are sets as one means it
 it. They aren't counted among the tier's lines."""
 LARGEST_FIRST_TIER = 600
 STD = "std"  # Begins the keys of sentences for words of std.
-OF_WORDS = """Each definition stands behind those that it names, but for the last section, with its text as it stands in the file. How it is read is in
-[READING_CONTRACTS](../docs/READING_CONTRACTS.md); a fact is the type of what shows it, and holds where that type has a value: a value of `Derives` is a
+OF_WORDS = """Each definition stands behind those that it names, but for the last section, with its text as it stands in the file. Where it is said that a law holds it, that
+law isn't proved any more with the edit in parentheses, which makes it weaker; what holds the others, and what no law does, says
+[DEFINITIONS](../docs/DEFINITIONS.md#what-no-law-holds). How a definition is read is in [READING_CONTRACTS](../docs/READING_CONTRACTS.md); a fact is the type of what shows it, and holds where that type has a value: a value of `Derives` is a
 derivation. Words of the toolchain's std:"""
+
+
+def edits_by_line(folder):
+    """Of each place in a file of definitions the edits of tests/weaker.py that change it, each with the law that is lost."""
+    found = {}
+    for path in sorted(folder.glob("*.edit")):
+        text = path.read_text(encoding="utf-8")
+        law = re.search(r"(?m)^refused: \S+ (?:\S+::)?(\S+)", text)
+        for file, old in re.findall(r"(?m)^file: (.*)\nold: (.*)$", text):
+            before, stands, _ = (ROOT / file).read_text(encoding="utf-8").partition(old)
+            if law and stands:
+                found.setdefault((file, before.count("\n") + 1), []).append((path.stem, law.group(1)))
+    return found
 
 
 class Sentences:
@@ -174,6 +189,7 @@ class Definitions:
             before |= found
         self.all = before
         self.decided = {d for d in self.tiers[0] if d.key in DECIDED or d.key.split(" ")[0] in DECIDED}
+        self.edits = edits_by_line(WEAKER)
 
     def counted(self, number):
         """What counts as a tier's."""
@@ -230,6 +246,12 @@ class Definitions:
         inside = [lines[n - 1] for n in range(first, last + 1) if n in definition.lines or lines[n - 1].lstrip().startswith("--")]
         indent = len(inside[0]) - len(inside[0].lstrip())
         return [line[indent:] for line in inside]
+
+    def weaker(self, definition):
+        """What tests/weaker.py does to a definition, and the laws that are lost then."""
+        file = f"crates/{definition.crate}/specs/{definition.file}"
+        found = sorted({edit for line in definition.lines for edit in self.edits.get((file, line), ())})
+        return ["Held by " + ", ".join(f"`{law}` (`{edit}`)" for edit, law in found) + "."] if found else []
 
     def of_file(self, module):
         crate, _, path = module.split(".", 2)
@@ -321,7 +343,8 @@ class Definitions:
                 cases = [c for c, types in self.library.modules[module].constructors.items() if d in types]
                 of_cases = f" ({', '.join(f'`{c}`' for c in cases)})" if cases else ""
                 sentence = f"`{d.name}`{of_cases}: {as_sentence(self.of_definition(d))}"
-                lines += [*filled(sentence), "", "```antt", *self.text_of(d), "```", ""] if in_full else filled(sentence, "- ", "  ")
+                lines += filled(sentence, *(() if in_full else ("- ", "  ")))
+                lines += ["", "```antt", *self.text_of(d), "```", "", *(line for text in self.weaker(d) for line in filled(text)), ""] if in_full else []
             return [*lines, ""]
         words = ", ".join(f"`{d.name}`" for d in definitions)
         text = f"More of {link}. Words: {words}." if again else f"**{link}.** {as_sentence(self.of_file(module))} Words: {words}."
