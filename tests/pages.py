@@ -85,7 +85,7 @@ it. They aren't counted among the tier's lines."""
 LARGEST_FIRST_TIER = 600
 STD = "std"  # Begins the keys of sentences for words of std.
 OF_WORDS = """Each definition stands behind those that it names, but for the last section, with its text as it stands in the file. Where it is said that a law holds it, that
-law isn't proved any more with the edit in parentheses, which makes it weaker; what holds the others, and what no law does, says
+law isn't proved any more with each edit in parentheses, which makes it weaker; what holds the others, and what no law does, says
 [DEFINITIONS](../docs/DEFINITIONS.md#what-no-law-holds). How a definition is read is in [READING_CONTRACTS](../docs/READING_CONTRACTS.md); a fact is the type of what shows it, and holds where that type has a value: a value of `Derives` is a
 derivation. Words of the toolchain's std:"""
 
@@ -250,8 +250,10 @@ class Definitions:
     def weaker(self, definition):
         """What tests/weaker.py does to a definition, and the laws that are lost then."""
         file = f"crates/{definition.crate}/specs/{definition.file}"
-        found = sorted({edit for line in definition.lines for edit in self.edits.get((file, line), ())})
-        return ["Held by " + ", ".join(f"`{law}` (`{edit}`)" for edit, law in found) + "."] if found else []
+        found = {}
+        for edit, law in sorted({edit for line in definition.lines for edit in self.edits.get((file, line), ())}):
+            found.setdefault(law, []).append(f"`{edit}`")
+        return ["Held by " + "; by ".join(f"`{law}` ({', '.join(edits)})" for law, edits in found.items()) + "."] if found else []
 
     def of_file(self, module):
         crate, _, path = module.split(".", 2)
