@@ -6,10 +6,11 @@
 
 The first needs HOL Light (Debian: apt-get install hol-light libnum-ocaml-dev), which is loaded with the files of FILES in some minutes. Each theorem that a
 file of it names is looked up in theories/; where the name stands, HOL Light's own parser reads our statement, with our names of constants, and its `aconv`
-compares it with the theorem, free variables quantified outside and type variables numbered. HOL Light's sets {x | p} and functions of pairs are first
-written as theories/README.md says. With --record the theorems are those of a recorded run, as `holls import` makes one (docs/EDITORS.md), which takes
-seconds: there the terms are compared, with their types, as holls.exchange.neutral translates HOL Light's. It prints a table by file, and with --all the
-statements that differ; --write puts the table into theories/README.md. The status is 1 where a statement differs that isn't in ALLOWED.
+compares it with the theorem, free variables quantified outside, in the order of their first places, and type variables numbered. HOL Light's sets {x | p}
+and functions of pairs are first written as theories/README.md says, and its numerals without NUMERAL. With --record the theorems are those of a recorded
+run, as `holls import` makes one (docs/EDITORS.md), which takes seconds: there the terms are compared, with their types, as holls.exchange.neutral
+translates HOL Light's. It prints a table by file, and with --all the statements that differ, ours and HOL Light's; --write puts the table into
+theories/README.md. The status is 1 where a statement differs that isn't in ALLOWED.
 
 The second measures the program PATH, crates/hol_serve/out/hol_serve: the library from nothing, and a change of a step in the middle of logic.hol whose
 theorem stays. With --dear it lists instead what each file and the N dearest proofs take (an import is a proof of its own).
@@ -50,6 +51,8 @@ NAMES = {
     "coprime": "num_coprime", "gcd": "num_gcd", "lcm": "num_lcm", "le_c": "<=_c", "lt_c": "<_c", "ge_c": ">=_c", "gt_c": ">_c", "eq_c": "=_c",
 }
 """Our names of constants that HOL Light calls otherwise."""
+TYPES = ("list", "option", "prod", "sum", "recspace")
+"""The library's types of types."""
 ALLOWED = frozenset()
 """Names whose statements may differ."""
 ABOUT_OTHERS = ("real", "hreal", "nadd", "treal", "complex", "cart", "finite_image", "word")
@@ -63,7 +66,8 @@ let keep file name th = kept := (file,name,th) :: !kept;;
 """
 COMPARING = r"""
 let rec plain tm = match tm with
-    Comb(Const("GSPEC",_),Abs(v,body)) -> plain_set v (plain body)
+    Comb(Const("NUMERAL",_),digits) -> digits
+  | Comb(Const("GSPEC",_),Abs(v,body)) -> plain_set v (plain body)
   | Comb(Const("GABS",_),Abs(f,body)) -> (try plain_function f (plain body) with Failure _ -> mk_comb(rator tm,plain (rand tm)))
   | Comb(f,x) -> mk_comb(plain f,plain x)
   | Abs(v,body) -> mk_abs(v,plain body)
@@ -84,7 +88,13 @@ and uncurried pattern t = match pattern with
       let inner = mk_abs(x,(if is_var y then mk_abs(y,t) else uncurried y t)) in
       mk_icomb(mk_const("UNCURRY",[]),inner)
   | _ -> failwith "uncurried";;
-let closed tm = list_mk_forall(frees tm,tm);;
+let closed tm =
+  let rec places bound found tm = match tm with
+      Var(_,_) -> if mem tm bound || mem tm found then found else tm :: found
+    | Const(_,_) -> found
+    | Comb(f,x) -> places bound (places bound found f) x
+    | Abs(v,b) -> places (v :: bound) found b in
+  list_mk_forall(List.rev (places [] [] tm),tm);;
 let numbered tm =
   let rec of_type ty found = match ty with Tyvar _ -> if mem ty found then found else found @ [ty] | Tyapp(_,l) -> List.fold_left (fun a b -> of_type b a) found l in
   let rec of_term tm found = match tm with
@@ -110,7 +120,9 @@ let compare_all ours =
            with Failure why -> "unread " ^ String.map (fun c -> if c = '\n' then ' ' else c) why | _ -> "unread")) in
       let rec types ty = match ty with Tyapp(n,l) -> n :: List.concat (map types l) | _ -> [] in
       let rec of_term tm = match tm with Var(_,ty) | Const(_,ty) -> types ty | Comb(f,x) -> of_term f @ of_term x | Abs(v,b) -> of_term v @ of_term b in
-      Printf.printf "\nNAMED %s %s %s %s\n%!" file name (String.concat "," (setify (of_term their))) told) (rev !kept);;
+      Printf.printf "\nNAMED %s %s %s %s\n%!" file name (String.concat "," (setify (of_term their))) told;
+      if told <> "missing" && told <> "same" then
+        Printf.printf "THEIRS %s %s\n%!" name (String.map (fun c -> if c = '\n' then ' ' else c) (string_of_term (closed (plain their))))) (rev !kept);;
 """
 
 
@@ -147,18 +159,7 @@ class Row:
 
 def readable(statement):
     """Our statement as HOL Light reads it, but for the names of constants."""
-    text = spaced(statement, ("list", "option"))
-    while True:
-        shorter = re.sub(r"\( BIT([01]) (\d+) \)|(?<![\w'])BIT([01]) (\d+)(?![\w'])", numeral, re.sub(r"(?<![\w'])_([01])(?![\w'])", r"\1", text))
-        if shorter == text:
-            return text
-        text = shorter
-
-
-def numeral(found):
-    """A numeral with one digit more, in decimals: HOL Light reads these."""
-    digit, rest = (found.group(1), found.group(2)) if found.group(1) else (found.group(3), found.group(4))
-    return str(2 * int(rest) + int(digit))
+    return spaced(statement, TYPES)
 
 
 def script(theories):
@@ -198,9 +199,11 @@ def hol_light(theories):
 
 
 def told_by_hol_light(theories):
-    """Of each theorem that HOL Light names: its file, its name, the types in it, and how our statement compares."""
+    """Of each theorem that HOL Light names: its file, its name, the types in it, and how our statement compares, with theirs where it isn't the same."""
     output = hol_light(theories)
-    return [(file, name, types.split(","), told) for file, name, types, told in re.findall(r"^NAMED (\S+) (\S+) (\S*) (.*)$", output, re.M)]
+    theirs = dict(re.findall(r"^THEIRS (\S+) (.*)$", output, re.M))
+    return [(file, name, types.split(","), f"{told}\n  HOL Light  {' '.join(theirs[name].split())}" if name in theirs else told)
+            for file, name, types, told in re.findall(r"^NAMED (\S+) (\S+) (\S*) (.*)$", output, re.M)]
 
 
 def told_by_record(path):
