@@ -64,12 +64,13 @@ export class Hour {
       ...paragraphs,
       element('p', {}, 'Wanted:'),
       element('ul', { className: 'wanted' }, ...inNotation.map((text) => element('li', {}, element('code', {}, text.replace(THEOREM, '$1: '))))),
-      element('p', { className: isDone ? 'verdict done' : 'verdict', id: 'verdict' }, isDone ? DONE : 'Not proved yet.'),
       ...this.hintParts(),
-      element('p', { className: 'buttons' },
-        element('button', { id: 'next', className: isDone ? 'main' : '', onclick: () => this.next() }, next),
-        element('button', { onclick: () => this.begin(this.number, true) }, 'Begin anew'),
-        element('button', { onclick: () => this.list() }, 'All lessons')),
+      element('div', { className: 'foot' },
+        element('p', { className: isDone ? 'verdict done' : 'verdict', id: 'verdict' }, isDone ? DONE : 'Not proved yet.'),
+        element('p', { className: 'buttons' },
+          element('button', { id: 'next', className: isDone ? 'main' : '', onclick: () => this.next() }, next),
+          element('button', { onclick: () => this.begin(this.number, true) }, 'Begin anew'),
+          element('button', { onclick: () => this.list() }, 'All lessons'))),
     ];
   }
 

@@ -13,16 +13,13 @@ from holls.difference import REMOVE, REPLACE
 from holls.files import File
 from holls.found import Finding
 from holls.protocol import Made
-from holls.server import Ended, Line
-from holls.session import Session
+from holls.server import Ended, Lines
+from holls.session import AHEAD, Session
 from holls.sweep import Sweep, is_known
 from holls.theory import DROP
 
 SERVED = frozenset((REPLACE, REMOVE, DROP))
-TOGETHER = 256
-"""So many lines of a program are heard together at most."""
-
-Event = Union[Line, Ended]
+Event = Union[Lines, Ended]
 
 
 @dataclass(frozen=True)
@@ -130,7 +127,7 @@ class _Worker:
     def _check(self, unit: Unit) -> Optional[str]:
         """Asks for all of a file. Answers why nothing can be said of it, or None."""
         if self.session is None:
-            self.session = Session(self.pool.program, self.events, SERVED, self.sweep, lambda: None, self.pool.seconds)
+            self.session = Session(self.pool.program, self.events, SERVED, self.sweep, lambda: None, self.pool.seconds, AHEAD)
         self.standing = joined(self.standing if self.root == unit.root else [], unit.imports + [unit.file])
         self.root = unit.root
         self.sweep.begin([unit.file])
@@ -146,20 +143,12 @@ class _Worker:
     def _wait(self, is_done: Callable[[], bool]) -> None:
         while not self.session.failure and not is_done():
             try:
-                self.session.hear(*self._heard(self.events.get(timeout=self.session.deadline())))
+                self.session.hear(self.events.get(timeout=self.session.deadline()))
             except queue.Empty:
                 self.session.tick()
 
-    def _heard(self, first: Event) -> List[Event]:
-        """An event with those that wait already: they are heard together."""
-        found = [first]
-        while len(found) < TOGETHER and not self.events.empty():
-            found.append(self.events.get_nowait())
-        return found
-
     def _ask_bases(self, unit: Unit, unknown: List[str]) -> None:
-        for number, command in enumerate(unit.file.commands):
-            entry = unit.file.entry(number)
+        for entry, command in zip(unit.file.entries(), unit.file.commands):
             if entry and isinstance(entry.report, Made) and command.word != "import":
                 line = unit.file.lines.line(command.start) + 1
                 for name in [made.split()[1] for made in entry.report.entries if made.startswith("thm ")]:
@@ -186,8 +175,7 @@ def joined(standing: List[File], files: List[File]) -> List[File]:
 
 def _lost(file: File) -> Optional[str]:
     """The first command of which the server said nothing, in words."""
-    for number, command in enumerate(file.commands):
-        entry = file.entry(number)
+    for entry, command in zip(file.entries(), file.commands):
         if entry and isinstance(entry.report, protocol.Lost):
             line = file.lines.line(command.start) + 1
             return "%s:%d: nothing is known of this command: %s" % (file.path, line, entry.report.reason)

@@ -4,7 +4,7 @@ from __future__ import annotations
 
 from dataclasses import dataclass
 from difflib import SequenceMatcher
-from typing import List, Optional, Sequence
+from typing import List, NamedTuple, Optional, Sequence
 
 from holls.common import ends
 from holls.protocol import COMMANDS
@@ -12,8 +12,7 @@ from holls.protocol import COMMANDS
 REPLACE, REMOVE, INSERT = "replace", "remove", "insert"
 
 
-@dataclass(frozen=True)
-class Edit:
+class Edit(NamedTuple):
     """An edit at a place of a theory's commands: `replace` and `insert` have a text."""
 
     op: str
@@ -22,12 +21,17 @@ class Edit:
 
     def apply(self, texts: List[str]) -> None:
         """Does to a list of texts what the server does to the theory."""
-        if self.op == INSERT:
-            texts.insert(self.at, self.text)
-        elif self.op == REPLACE:
-            texts[self.at] = self.text
-        else:
-            del texts[self.at]
+        carry_out(texts, self.op, self.at, self.text)
+
+
+def carry_out(texts: List[str], op: str, at: int, text: str) -> None:
+    """Does to a list of texts what the server does to a theory at an edit."""
+    if op == INSERT:
+        texts.insert(at, text)
+    elif op == REPLACE:
+        texts[at] = text
+    else:
+        del texts[at]
 
 
 @dataclass(frozen=True)

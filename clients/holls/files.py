@@ -36,8 +36,8 @@ class File:
     its quotations read (`notation`, `theory`, `blemishes`, and what is told by these) is made when it is asked for the first time behind a change:
     `notation` is what its commands are in notation, by what the files that it imports declare. `blemishes` come from the file alone,
     `context` from what stands beside it; with `is_shadowed` there is no room for it in the server, or another file is its theory. Of the theories that it
-    imports those of `refused` are part of a circle, and aren't carried out. `written` is what the module `names` keeps of it, `hints`
-    what `findings` does; `undecoded` says where its bytes are no text any more, and `neighbours` gives the paths of its project.
+    imports those of `refused` are part of a circle, and aren't carried out. `written` is what the module `names` keeps of it, `likes` what
+    `meant` does, `hints` what `findings` does; `undecoded` says where its bytes are no text any more, and `neighbours` gives the paths of its project.
     """
 
     def __init__(self, path: str) -> None:
@@ -55,10 +55,12 @@ class File:
         self._import_commands: Optional[Dict[str, List[Command]]] = None
         self.refused: Tuple[str, ...] = ()
         self.written: Optional[Tuple[Notation, List[Any]]] = None
+        self.likes: Optional[Tuple[List[Notation], Dict[str, Any]]] = None
         self.hints: Optional[List[Any]] = None
         self.undecoded: Optional[Blemish] = None
         self.neighbours: Callable[[], Sequence[str]] = lambda: ()
         self._notation: Optional[Notation] = None
+        self._last_notation: Optional[Notation] = None
         self._imported: Mapping[str, "File"] = {}
         self._read_by: Mapping[str, Notation] = {}
         self._slots: List[Optional[int]] = []
@@ -156,6 +158,7 @@ class File:
 
     def _forget(self) -> None:
         """Has what needs its quotations read made anew when it is asked for."""
+        self._last_notation = self._notation or self._last_notation
         self._notation = self.hints = None
 
     def with_imports(self) -> List["File"]:
@@ -192,7 +195,8 @@ class File:
 
         imports = self.carried_out
         self._read_by = {name: one._notation for name, one in self._imported.items() if name in imports and one._notation is not None}
-        self._notation = Notation(self.cut.commands, self._read_by)
+        self._notation = Notation(self.cut.commands, self._read_by, self._last_notation)
+        self._last_notation = None
         self._starts = [command.start for command in self._notation.commands]
         self._want()
 
@@ -236,6 +240,12 @@ class File:
         """Whether a command declares notation, so that the program never gets it."""
         return number in self.notation.declared
 
+    def jobs(self, numbers: Sequence[int]) -> List[Tuple[Theory, int]]:
+        """The places of commands in the theory, of those that are sent."""
+        self._read()
+        most = protocol.COMMANDS if self.is_sent else 0
+        return [(self._theory, slot) for slot in map(self._slots.__getitem__, numbers) if slot is not None and slot < most]
+
     def entry(self, number: int) -> Optional[Entry]:
         """What is known of a command; None where it isn't sent."""
         slot = self.slot(number)
@@ -268,7 +278,8 @@ class File:
 
     def proof_begin(self, number: int) -> int:
         """The command at which the proof that a command stands in begins: the last one above that can't stand in a proof, or it."""
-        while number > 0 and self.commands[number].word not in notation.OUTSIDE:
+        commands = self.commands
+        while number > 0 and commands[number].word not in notation.OUTSIDE:
             number -= 1
         return number
 

@@ -26,13 +26,13 @@ class _Proof:
 
     number: int
     name: str
-    line: int
+    file: File
     broken: Optional[int] = None
     is_swallowing: bool = False
     last: Optional[Goals] = None
 
     def __str__(self) -> str:
-        return "that of %s, from line %d" % (self.name, self.line)
+        return "that of %s, from line %d" % (self.name, self.file.lines.line(self.file.commands[self.number].start) + 1)
 
 
 OWN = (protocol.SYNTAX, protocol.UNKNOWN_TAC)
@@ -93,7 +93,7 @@ class _Walk:
         if command.word == "g":
             self.refused_goal = None
             self.is_certain = True
-            self.proof = _Proof(number, command.name, self.line(number))
+            self.proof = _Proof(number, command.name, self.file)
         if self.proof:
             self.proof.last = report
 

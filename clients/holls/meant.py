@@ -6,12 +6,14 @@ Two names are like one another where one letter is missing, too many, another on
 from __future__ import annotations
 
 import re
-from typing import Dict, Iterator, List, Optional, Tuple
+from functools import lru_cache
+from typing import Dict, Iterable, Iterator, List, Optional, Tuple
 
 from holls import binders, declaring, manual, names, notation, protocol
 from holls.files import File
 from holls.names import CONSTANT, IN_TERMS, TACTIC, THEOREM, TYPE
 from holls.protocol import Refusal
+from holls.text import REMEMBERED
 
 LEAST = 3
 """Shorter names of quotations are those of variables, which may be like any constant's."""
@@ -23,15 +25,18 @@ _MOST_STRANGE = 20
 _NAME = re.compile(r"(?<![A-Za-z0-9_'?])[A-Za-z_][A-Za-z0-9_']*")
 _KINDS = {"thm": THEOREM, "const": CONSTANT, "type": TYPE, "tac": TACTIC}
 """The program's words for kinds of names."""
+Likes = Dict[str, List[Tuple[int, str]]]
+"""Names by what they are like, each with the command that makes it, or -1 where another file does."""
 _OF_QUOTATIONS = (protocol.UNTYPABLE, protocol.NOT_BOOL, protocol.ARITY)
 
 
 class Meant:
-    """The names that stand in a file, by what they are like. They are gathered where the first name is looked for."""
+    """The names that stand in a file, by what they are like. They are gathered where the first name is looked for; those of what it imports once, as
+    long as that doesn't change."""
 
     def __init__(self, file: File) -> None:
         self.file = file
-        self._likes: Dict[str, Dict[str, List[Tuple[int, str]]]] = {}
+        self._likes: Dict[str, Tuple[Likes, Likes]] = {}
         self._makers: Dict[str, List[str]] = {}
 
     def said(self, number: int, refusal: Refusal) -> str:
@@ -43,7 +48,7 @@ class Meant:
         if refusal.number == protocol.UNKNOWN_THEOREM:
             return _question(self.like(THEOREM, name, number))
         if refusal.number == protocol.UNKNOWN_TAC:
-            is_told = name in notation.FORWARD or name in notation.ELSEWHERE or notation.near(name, notation.TACS)
+            is_told = name in notation.FORWARD or name in notation.ELSEWHERE or notation.near_tactic(name)
             return "" if is_told else _question(self.like(TACTIC, name, number))
         if refusal.number == protocol.NOT_CLOSED:
             near = self.like(CONSTANT, name, number)
@@ -72,27 +77,23 @@ class Meant:
         """The name of a kind that stands before a command and is like one that doesn't: of several the last one that was made."""
         if kind in IN_TERMS and len(name) < LEAST:
             return None
-        likes = self._of_kind(kind)
-        found = [made for key in _keys(name) for made in likes.get(key, ()) if made[0] < number and made[1] != name]
+        if kind not in self._likes:
+            own = ((one.last, one.name) for one in _standing(self.file, kind))
+            self._likes[kind] = self._of_imports(kind), _by_keys(own)
+        found = [made for key in _keys(name) for likes in self._likes[kind] for made in likes.get(key, ()) if made[0] < number and made[1] != name]
         return max(found)[1] if found else None
 
-    def _of_kind(self, kind: str) -> Dict[str, List[Tuple[int, str]]]:
-        """The names of a kind by what they are like, each with the command that makes it, or -1 where another file does."""
-        if kind not in self._likes:
-            likes = self._likes[kind] = {}
-            for at, name in self._names(kind):
-                for key in _keys(name):
-                    likes.setdefault(key, []).append((at, name))
-        return self._likes[kind]
-
-    def _names(self, kind: str) -> Iterator[Tuple[int, str]]:
-        yield from ((-1, one.name) for one in names.PRELUDE if one.kind == kind)
-        if kind == TACTIC:
-            yield from ((-1, name) for name in manual.FUNCTIONS)
-        for file in self.file.with_imports():
-            for one in names.written(file):
-                if one.kind == kind and file.commands[one.last].text != "oops":
-                    yield (one.last if file is self.file else -1), one.name
+    def _of_imports(self, kind: str) -> Likes:
+        """The names of a kind that the prelude has, and what is imported: kept with the file as long as these are the same."""
+        files = self.file.with_imports()[1:]
+        read = [file.notation for file in files]
+        if self.file.likes is None or self.file.likes[0] != read:
+            self.file.likes = read, {}
+        kept: Dict[str, Likes] = self.file.likes[1]
+        if kind not in kept:
+            fixed = [one.name for one in names.PRELUDE if one.kind == kind] + (list(manual.FUNCTIONS) if kind == TACTIC else [])
+            kept[kind] = _by_keys((-1, name) for name in [*fixed, *(one.name for file in files for one in _standing(file, kind))])
+        return kept[kind]
 
     def _in_quotation(self, number: int, place: str) -> str:
         """Words on the first name in the quotation at a place that no constant and no type has, and one that stands is like."""
@@ -121,7 +122,22 @@ def _question(near: Optional[str]) -> str:
     return "; did you mean %s?" % near if near else ""
 
 
-def _keys(name: str) -> List[str]:
+def _standing(file: File, kind: str) -> Iterator[names.Written]:
+    """The names of a kind that a file's commands make. Of a given-up proof there is none."""
+    return (one for one in names.written(file) if one.kind == kind and file.commands[one.last].text != "oops")
+
+
+def _by_keys(made: Iterable[Tuple[int, str]]) -> Likes:
+    """Names by what they are like."""
+    likes: Likes = {}
+    for at, name in made:
+        for key in _keys(name):
+            likes.setdefault(key, []).append((at, name))
+    return likes
+
+
+@lru_cache(REMEMBERED)
+def _keys(name: str) -> Tuple[str, ...]:
     """What names that are like one another have in common: themselves, and what is left where one letter goes."""
     plain = name[:_MOST_LETTERS].upper().replace("_", "")
-    return list(dict.fromkeys([plain] + [plain[:at] + plain[at + 1:] for at in range(len(plain))]))
+    return tuple(dict.fromkeys([plain] + [plain[:at] + plain[at + 1:] for at in range(len(plain))]))

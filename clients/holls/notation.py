@@ -4,6 +4,7 @@ from __future__ import annotations
 
 import difflib
 import re
+from functools import lru_cache
 from typing import Iterable, List, Optional, Tuple
 
 TACS = {
@@ -112,6 +113,12 @@ def near(name: str, names: Iterable[str]) -> Optional[str]:
     stems = {stem(other.upper()): other for other in names}
     found = difflib.get_close_matches(stem(name.upper()), stems, 1, 0.72)
     return stems[found[0]] if found else None
+
+
+@lru_cache(1 << 10)
+def near_tactic(name: str) -> Optional[str]:
+    """The tactic or tactical that was meant, where one is like a name."""
+    return near(name, TACS)
 
 
 def quotation(text: str, place: int) -> Tuple[int, int]:

@@ -31,7 +31,7 @@ RESERVED = frozenset(
 _WRITTEN = json.JSONEncoder(separators=(",", ":"), ensure_ascii=False).encode
 _QUOTED = json.JSONEncoder(ensure_ascii=False).encode
 _READ = json.JSONDecoder().raw_decode
-_DONE = b'{"ok":true}\n'
+_DONE = b'{"ok":true}'
 """The commonest reply."""
 _NAME = re.compile(r"[A-Za-z_][A-Za-z0-9_']*\Z")
 

@@ -14,7 +14,7 @@ from holls.files import File
 from holls.names import PRELUDE, THEOREM, Known
 from holls.projects import LIBRARY
 from holls.say import complain, say
-from holls.session import Session
+from holls.session import AHEAD, Session
 from holls.sweep import Sweep
 from holls.view import View
 
@@ -77,7 +77,7 @@ def _written(units: Sequence[Unit]) -> Iterator[Known]:
 def _standing(units: Sequence[Unit], program: List[str], seconds: int) -> Iterator[Known]:
     """What stands at each file's end, as the program shows it."""
     events: "queue.Queue[object]" = queue.Queue()
-    session = Session(program, events, SERVED, Sweep(), lambda: None, seconds)
+    session = Session(program, events, SERVED, Sweep(), lambda: None, seconds, AHEAD)
     standing: List[File] = []
     root = ""
     for unit in units:

@@ -86,14 +86,24 @@ class NamesAt(Vocabulary):
         return self.names.constants.get(name, self.number) < self.number or self.names.imported.is_constant(name)
 
 
+class _Mark(NamedTuple):
+    """What a file's notation is before one of the commands that are written: how many it has, and so on."""
+
+    commands: int
+    blemishes: int
+    scope: Scope
+    has_packages: bool
+
+
 class Notation:
     """What a file's commands are in notation: as they are sent, with what is declared behind each, and what is wrong.
 
     `misread` are the numbers of the commands that have an error; `declared` those of the declarations, which the program never gets; `simple` the
-    theorems that `simp` names here; `exported` and `vocabulary` are what importing files have of this one.
+    theorems that `simp` names here; `exported` and `vocabulary` are what importing files have of this one. `number_read` commands were read for it:
+    those at the beginning are taken from the notation `before` the last change, as long as nothing can be otherwise there.
     """
 
-    def __init__(self, written: Sequence[Command], imported: Mapping[str, "Notation"]) -> None:
+    def __init__(self, written: Sequence[Command], imported: Mapping[str, "Notation"], before: Optional["Notation"] = None) -> None:
         self.commands: List[Command] = []
         self.has_packages = False
         self.lists = {name for one in imported.values() for name in one.lists}
@@ -103,6 +113,8 @@ class Notation:
         self._course = Course(lambda: [one.standing for one in self._imported.values()])
         self._own = hash(tuple(command.text for command in written if command.word in _STANDING))
         self.key = self._key(imported)
+        self._written, self._over, self._keys = written, imported, [one.key for one in imported.values()]
+        self._marks: List[_Mark] = []
         self.declared: Dict[int, Declaration] = {}
         self.blemishes: List[Blemish] = []
         self.tables: List[Table] = []
@@ -115,15 +127,52 @@ class Notation:
         self._scope = NOTHING
         self._standing = NamesAt(self.names, 0)
         self._placed: Dict[int, replacing.Placed] = {}
-        for at, command in enumerate(written):
-            if command.word == "g":
-                self._put_in_front(command, written, at + 1)
-            self._add(len(self.commands), command, imported)
+        kept = before._kept(written, imported) if before is not None else 0
+        if kept:
+            self._begin_as(before, kept)
+        self.number_read = len(written) - kept
+        self._read_from(kept)
         self.exported = self._scope.exported
         self.vocabulary = Vocabulary({**constructors, **{name: number for name, (_, number) in self.names.constructors.items()}},
                                      {**constants, **self.names.constants})
         self._check_constants()
         self.misread = [number for number, command in enumerate(self.commands) if not command.text and command.error is not None]
+
+    def _kept(self, written: Sequence[Command], imported: Mapping[str, "Notation"]) -> int:
+        """How many commands at the beginning are as they are here whatever stands behind them: where the same is imported, and no package stands that
+        does more than to put something into a proof. A proof that the first other command may belong to isn't among them: what stands in front of it is
+        found by its steps."""
+        if [one.key for one in imported.values()] != self._keys or any(one is not self._over.get(name) for name, one in imported.items()):
+            return 0
+        number = 0
+        for old, new in zip(self._written, written):
+            if old is not new or old.word in expansion.WORDS:
+                break
+            number += 1
+        last = next((at for at in range(number - 1, -1, -1) if written[at].word in _ENDING), 0)
+        return last if number and written[last].word not in ("qed", "oops") else number
+
+    def _read_from(self, number: int) -> None:
+        """Reads the commands that are written from one on."""
+        for at in range(number, len(self._written)):
+            command = self._written[at]
+            self._mark()
+            if command.word == "g":
+                self._put_in_front(command, self._written, at + 1)
+            self._add(len(self.commands), command, self._over)
+        self._mark()
+
+    def _mark(self) -> None:
+        self._marks.append(_Mark(len(self.commands), len(self.blemishes), self._scope, self.has_packages))
+
+    def _begin_as(self, before: "Notation", kept: int) -> None:
+        """Takes the first commands from another notation."""
+        self._marks = before._marks[:kept]
+        commands, blemishes, self._scope, self.has_packages = before._marks[kept]
+        self.commands, self.tables, self.blemishes = before.commands[:commands], before.tables[:commands], before.blemishes[:blemishes]
+        self.declared = {number: one for number, one in before.declared.items() if number < commands}
+        self.names.constants.update((name, number) for name, number in before.names.constants.items() if number < commands)
+        self.names.constructors.update((name, made) for name, made in before.names.constructors.items() if made[0] < commands)
 
     def _key(self, imported: Mapping[str, "Notation"]) -> int:
         """What decides what stands behind the file's commands."""

@@ -7,6 +7,7 @@ import queue
 import shutil
 import subprocess
 import threading
+import time
 from dataclasses import dataclass
 from pathlib import Path
 from typing import FrozenSet, List, Optional, Union
@@ -31,6 +32,9 @@ MEMORY_MB = 3000
 
 CHUNK_BYTES = 1 << 16
 """So many bytes are read at a time at most."""
+MANY, REPLY_SECONDS, REST_SECONDS = 16, 2e-5, 0.01
+"""Where so many replies are awaited, what comes is read a while later, together: so long for each of them, which is less than one takes, and so long
+at most. Else this process would be woken by each."""
 REPLY_BYTES = 1 << 28
 """A longer line is taken for no reply."""
 
@@ -51,11 +55,11 @@ class NoServer(Exception):
 
 
 @dataclass(frozen=True)
-class Line:
-    """A line that a server wrote."""
+class Lines:
+    """Lines that a server wrote, without their newlines, as many as were there together."""
 
     server: "Server"
-    data: bytes
+    lines: List[bytes]
 
 
 @dataclass(frozen=True)
@@ -74,6 +78,7 @@ class Server:
         self._events = events
         self._lines: "queue.SimpleQueue[Optional[bytes]]" = queue.SimpleQueue()
         self._complaint = b""
+        self._sent = self._read_lines = 0
         self._listener = threading.Thread(target=self._hear, daemon=True)
         self._listener.start()  # The reader joins it, which may be as soon as the reader begins.
         for work in (self._write, self._read):
@@ -81,6 +86,7 @@ class Server:
 
     def send(self, line: bytes) -> None:
         """Queues a line to be written, or several with newlines between them."""
+        self._sent += line.count(b"\n") + 1
         self._lines.put(line + b"\n")
 
     def stop(self) -> None:
@@ -109,15 +115,15 @@ class Server:
         """Hands on whole lines; what ends within a line, or is too long for one, ends the server."""
         begun: List[bytes] = []
         length = 0
-        for data in iter(lambda: self.process.stdout.read1(CHUNK_BYTES), b""):
-            lines = data.split(b"\n")
-            if len(lines) > 1:
+        for data in iter(self._data, b""):
+            *lines, rest = data.split(b"\n")
+            if lines:
                 lines[0] = b"".join(begun) + lines[0]
                 begun, length = [], 0
-                for line in lines[:-1]:
-                    self._events.put(Line(self, line + b"\n"))
-            begun.append(lines[-1])
-            length += len(lines[-1])
+                self._read_lines += len(lines)
+                self._events.put(Lines(self, lines))
+            begun.append(rest)
+            length += len(rest)
             if length > REPLY_BYTES:
                 break
         if length:
@@ -125,6 +131,13 @@ class Server:
         status = self.process.wait()
         self._listener.join(1)
         self._events.put(Ended(self, _ending(status, self._complaint)))
+
+    def _data(self) -> bytes:
+        """What has been written: where much is still to come, a while later."""
+        awaited = self._sent - self._read_lines
+        if awaited >= MANY:
+            time.sleep(min(REST_SECONDS, awaited * REPLY_SECONDS))
+        return self.process.stdout.read1(CHUNK_BYTES)
 
     def _hear(self) -> None:
         """Keeps the last of what comes on standard error."""

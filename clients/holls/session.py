@@ -16,7 +16,7 @@ from typing import Callable, Deque, Dict, FrozenSet, List, Optional, Tuple, Unio
 
 from holls import protocol
 from holls.difference import INSERT, REPLACE
-from holls.server import Ended, Events, Line, NoServer, Server
+from holls.server import Ended, Events, Lines, NoServer, Server
 from holls.sweep import Sweep
 from holls.theory import DROP, NEW, Change, Entry, Job, Standing, Theory
 
@@ -31,20 +31,23 @@ ENDS = 6
 WINDOW = 64
 """So many requests are sent ahead at most, and hardly more than take so long: a later edit waits for these."""
 WINDOW_SECONDS = 0.02
+AHEAD = 512
+"""So many are sent ahead, however long they take, by one who will send no other edit: program and client then take them by many, and wake one
+another seldom."""
 
 Answer = Callable[[Union[protocol.Reply, protocol.Lost]], None]
 
 
 @dataclass
 class _Pending:
-    """A request that was sent and what takes its reply: an edit's change, or the entry that is asked for, or a question.
+    """A request that was sent and what takes its reply: an edit's change, or the entry that is asked for, or what a question's answer goes to.
 
     After PATIENCE_SECONDS it has a `limit`, and `is_in_the_way` where the server is then started again for what is wanted now.
     """
 
-    answer: Answer
     change: Optional[Change] = None
     entry: Optional[Entry] = None
+    answer: Optional[Answer] = None
     limit: Optional[float] = None
     is_in_the_way: bool = False
 
@@ -53,12 +56,13 @@ class Session:
     """One server in step with `theories`. `sweep` names the commands to be asked for; `told` is called after each news."""
 
     def __init__(self, program: List[str], events: Events, served: FrozenSet[str], sweep: Sweep,
-                 told: Callable[[], None], seconds: float) -> None:
+                 told: Callable[[], None], seconds: float, ahead: Optional[int] = None) -> None:
+        """With `ahead` so many requests are sent ahead, however long they take."""
         self.theories: List[Theory] = []
         self._by_name: Dict[str, Theory] = {}
         self.failure: Optional[str] = None
         self.slow_seconds = SLOW_SECONDS
-        self._program, self._events, self._served = program, events, served
+        self._program, self._events, self._served, self._ahead = program, events, served, ahead
         self.seconds = seconds
         self._sweep, self._told = sweep, told
         self._server: Optional[Server] = None
@@ -134,7 +138,7 @@ class Session:
         """Finds what can be sent now."""
         if self.failure or self._dozes or not self._is_in_step and not self._find_changes():
             return
-        window = _window(self._took_edit)
+        window = self._window(self._took_edit)
         while self._changes and len(self._pending) < window:
             self._edit(self._changes.popleft())
         if self._changes or any(pending.change for pending in self._pending):
@@ -142,7 +146,7 @@ class Session:
         self._rounds = 0
         while self._questions:
             request, answer = self._questions.popleft()
-            self._send(request, _Pending(answer))
+            self._send(request, _Pending(answer=answer))
         self._ask_ahead()
 
     def _begin_edit(self) -> None:
@@ -170,14 +174,16 @@ class Session:
 
     def _edit(self, change: Change) -> None:
         """Sends a change, and asks for its command right behind it: no later change comes before this one's place."""
-        self._send(change.line(), _Pending(lambda reply: self._edited(change, reply), change))
+        self._send(change.line(), _Pending(change))
         entry = self._entry(change)
-        theory = self._theory(change.theory)
-        if entry and theory and self._sweep.asks(theory) and entry.report is None and not entry.is_asked:
+        if entry is None or entry.report is not None or entry.is_asked:
+            return
+        theory = self._by_name[change.theory]
+        if self._sweep.asks(theory):
             self._ask(theory, change.at)
 
     def _ask_ahead(self) -> None:
-        window = _window(self._took)
+        window = self._window(self._took)
         while len(self._pending) < window:
             job = self._sweep.pick()
             if job is None:
@@ -190,7 +196,11 @@ class Session:
         entry = theory.entries[at]
         entry.is_asked = True
         request = b'{"op":"report","theory":"%s","at":%d}' % (theory.name.encode(), at)  # A theory's name has no character that JSON escapes.
-        self._send(request, _Pending(lambda reply: self._reported(entry, reply), entry=entry))
+        self._send(request, _Pending(entry=entry))
+
+    def _window(self, took: float) -> int:
+        """How many requests are sent ahead, where the last ones took so many seconds each."""
+        return self._ahead or max(1, min(WINDOW, int(WINDOW_SECONDS / max(took, 1e-6))))
 
     def _send(self, line: bytes, pending: _Pending) -> None:
         if not self._pending:
@@ -198,12 +208,9 @@ class Session:
         self._pending.append(pending)
         self._lines.append(line)
 
-    def _theory(self, name: str) -> Optional[Theory]:
-        return self._by_name.get(name)
-
     def _entry(self, change: Change) -> Optional[Entry]:
         """The command that a change puts, if it is wanted there and can be left out. A hidden one never is why a server fails."""
-        theory = self._theory(change.theory)
+        theory = self._by_name.get(change.theory)
         if change.op not in (INSERT, REPLACE) or theory is None or change.at >= len(theory.entries):
             return None
         entry = theory.entries[change.at]
@@ -211,7 +218,7 @@ class Session:
 
     # Hearing
 
-    def hear(self, *events: Union[Line, Ended]) -> None:
+    def hear(self, *events: Union[Lines, Ended]) -> None:
         """Takes events of a server, in their order; those of an earlier server are of no interest."""
         is_heard = False
         for event in events:
@@ -221,26 +228,38 @@ class Session:
             if isinstance(event, Ended):
                 self._lose(event.reason)
             else:
-                self._heard(protocol.reply(event.data))
+                self._hear_lines(event)
         if is_heard:
             for theory in self.theories:
                 theory.settle()
             self._told()
             self.pump()
 
-    def _heard(self, reply: protocol.Reply) -> None:
+    def _hear_lines(self, event: Lines) -> None:
+        """Takes replies that came together: each took its part of the time since those before them."""
+        now = time.monotonic()
+        took, self._since = (now - self._since) / max(1, min(len(event.lines), len(self._pending))), now
+        if self._begun is not None:
+            self._start_seconds, self._begun = now - self._begun, None
+        for line in event.lines:
+            self._heard(protocol.reply(line), took)
+            if event.server is not self._server:
+                return
+
+    def _heard(self, reply: protocol.Reply, took: float) -> None:
         if isinstance(reply, protocol.Unreadable) or not self._pending:
             self._lose("wrote a line that is no reply")
             return
-        age, pending = self._age(), self._pending.popleft()
-        self._since = time.monotonic()
-        if self._begun is not None:
-            self._start_seconds, self._begun = self._since - self._begun, None
-        if pending.change:
-            self._took_edit = age
+        pending = self._pending.popleft()
+        if pending.change is not None:
+            self._took_edit = took
+            self._edited(pending.change, reply)
+        elif pending.entry is not None:
+            self._took = took
+            self._reported(pending.entry, reply)
         else:
-            self._took = age
-        pending.answer(reply)
+            self._took = took
+            pending.answer(reply)
 
     def _edited(self, change: Change, reply: protocol.Reply) -> None:
         """Takes the reply to a change. What was sent behind a refused one may have gone to a wrong place: the difference is sent then."""
@@ -271,9 +290,9 @@ class Session:
             if self._rounds > 1:
                 self._lose("refused an edit twice: " + (reply.text if isinstance(reply, protocol.Error) else "a reply of another kind"))
 
-    def _reported(self, entry: Entry, reply: Union[protocol.Reply, protocol.Lost]) -> None:
+    def _reported(self, entry: Entry, reply: protocol.Reply) -> None:
         entry.is_asked = False
-        if self._is_refused or isinstance(reply, protocol.Lost):
+        if self._is_refused:
             return
         if isinstance(reply, (protocol.Goals, protocol.Made, protocol.Refusal)):
             entry.report = reply
@@ -316,7 +335,9 @@ class Session:
             entry = self._entry(pending.change) if pending.change else None
             if entry:
                 entry.is_slow = False
-            if not pending.change:
+            if pending.entry is not None:
+                pending.entry.is_asked = False
+            elif pending.answer is not None:
                 pending.answer(protocol.Lost("hol_serve was started anew"))
 
     # Times
@@ -389,8 +410,3 @@ class Session:
         entry.report = protocol.Lost(stopped or "hol_serve gave no answer within %d seconds" % self.seconds)
         entry.is_left_out = head.change is not None
         self.stop()
-
-
-def _window(took: float) -> int:
-    """How many requests are sent ahead, where the last one took so many seconds."""
-    return max(1, min(WINDOW, int(WINDOW_SECONDS / max(took, 1e-6))))

@@ -114,7 +114,7 @@ def _no_command(token: str) -> str:
         return "`%s` begins no command: a step begins with e, as in e %s;;" % (token, token)
     if near:
         return "`%s` begins no command; did you mean %s?" % (token, near.lower())
-    function = notation.near(token, notation.TACS) if "_" in token else None
+    function = notation.near_tactic(token) if "_" in token else None
     if function:
         return "`%s` begins no command; did you mean e %s?" % (token, function)
     return "`%s` begins no command; commands begin with %s" % (token, ", ".join(notation.COMMANDS))

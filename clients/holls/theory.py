@@ -3,10 +3,10 @@
 from __future__ import annotations
 
 from dataclasses import dataclass, field
-from typing import Dict, Iterable, List, Optional, Sequence, Set, Tuple, Union
+from typing import Dict, Iterable, List, NamedTuple, Optional, Sequence, Set, Tuple, Union
 
 from holls import protocol
-from holls.difference import INSERT, REMOVE, Edit, difference, middle
+from holls.difference import INSERT, REMOVE, carry_out, difference, middle
 from holls.unchanged import Before, Walk, all_known
 
 NEW, DROP = "new_theory", "drop_theory"
@@ -107,8 +107,7 @@ Job = Tuple[Theory, int]
 """A command that is asked for: its theory, and its place there."""
 
 
-@dataclass(frozen=True)
-class Change:
+class Change(NamedTuple):
     """A change of the theories that stand: an edit of one, or with an op of NEW or DROP the theory itself."""
 
     op: str
@@ -146,7 +145,7 @@ class Standing:
             del self._by_name[change.theory]
         else:
             self._count(change, seconds)
-            Edit(change.op, change.at, change.text).apply(self._texts(change.theory))
+            carry_out(self._texts(change.theory), change.op, change.at, change.text)
 
     def _count(self, change: Change, seconds: float) -> None:
         """Keeps what each command took when it was put at its theory's end."""

@@ -3,6 +3,7 @@
 from __future__ import annotations
 
 import re
+from functools import lru_cache
 from typing import List, Optional, Sequence, Tuple
 
 from holls import notation, protocol, syntax
@@ -62,6 +63,7 @@ _QUOTED = {
 """The refusals that name a quotation's place."""
 
 
+@lru_cache(1 << 10)
 def explain(text: str, refusal: Refusal, opened: Optional[str] = None) -> Told:
     """What a refusal of a command says. `opened` tells of the proof that is open, where one is."""
     number = refusal.number
@@ -170,7 +172,7 @@ def _unknown_tac(text: str, name: str, start: int) -> str:
         return "HOL Light's %s isn't here%s" % (name, ": " + instead if instead else "; docs/TACTICS.md lists the tactics that are")
     if name in notation.SEARCHES:
         return "%s is no step of a proof: %s" % (name, notation.SEARCHES[name])
-    near = notation.near(name, notation.TACS)
+    near = notation.near_tactic(name)
     meant = "; did you mean %s?" % near if near else ""
     if not near and any(_ARGUMENT.match(text, end) or _handing(text, first) for first, end in _uses(text, name)):
         return "no tactic %s takes arguments: what deftac names takes none" % name

@@ -11,6 +11,7 @@ import faulthandler
 import io
 import os
 import pathlib
+import resource
 import signal
 import sys
 import time
@@ -20,6 +21,8 @@ HERE = pathlib.Path(__file__).resolve().parent
 AT_ONCE = 6
 """So many tests are under way: more than the processors of the gate's machine, since they wait for a third of their time."""
 SLOW_SECONDS = 10
+MOST_TOLD = 12
+"""Of so many tests it is told how much of the processors they took."""
 MOST_SECONDS = 300
 """A test that takes longer is taken for one that never ends."""
 ENDED_SECONDS = 60
@@ -54,17 +57,24 @@ def never_ends(number, frame):
 
 @dataclasses.dataclass
 class Outcome:
-    """What came of a test."""
+    """What came of a test, how long it took, and how much of the processors with all that it started."""
 
     name: str
     state: str
     written: str
     seconds: float
+    processor: float
+
+
+def processor():
+    """The processors' time that this process has had, and those that it started and that have ended."""
+    used = [resource.getrusage(whose) for whose in (resource.RUSAGE_SELF, resource.RUSAGE_CHILDREN)]
+    return sum(one.ru_utime + one.ru_stime for one in used)
 
 
 def run(name):
     """Runs a test."""
-    begun, written, seen = time.monotonic(), io.StringIO(), NeverEnds.seen
+    begun, had, written, seen = time.monotonic(), processor(), io.StringIO(), NeverEnds.seen
     signal.signal(signal.SIGALRM, never_ends)
     signal.alarm(MOST_SECONDS)
     faulthandler.dump_traceback_later(MOST_SECONDS + ENDED_SECONDS, exit=True)
@@ -75,7 +85,7 @@ def run(name):
         faulthandler.cancel_dump_traceback_later()
     is_failed = result.failures or result.errors or not result.testsRun and not result.skipped
     state = NO_END if NeverEnds.seen > seen else "FAILED" if is_failed else "skipped" if result.skipped else "passed"
-    return Outcome(name, state, written.getvalue(), time.monotonic() - begun)
+    return Outcome(name, state, written.getvalue(), time.monotonic() - begun, processor() - had)
 
 
 def outcomes(found):
@@ -84,6 +94,13 @@ def outcomes(found):
         for future in concurrent.futures.as_completed([pool.submit(run, name) for name in found]):
             if not future.exception():
                 yield future.result()
+
+
+def dearest(outcomes):
+    """Words on what the tests took of the processors, and which took most of it."""
+    most = sorted(outcomes, key=lambda one: -one.processor)[:MOST_TOLD]
+    return "%.0f s of the processors, most of it %s" % (
+        sum(one.processor for one in outcomes), ", ".join("%s %.1f" % (".".join(one.name.split(".")[-2:]), one.processor) for one in most))
 
 
 def told(found):
@@ -102,7 +119,9 @@ def main():
     found = list(names(unittest.defaultTestLoader.discover(str(HERE), top_level_dir=str(HERE.parent))))
     found = [name for name in found if not sys.argv[1:] or any(word in name for word in sys.argv[1:])]
     found.sort(key=lambda name: not any(word in name for word in FIRST))
-    states = {it.name: it.state for it in told(found)}
+    begun, ended = time.monotonic(), list(told(found))
+    states = {it.name: it.state for it in ended}
+    print("clients: %.0f s by the clock, %s" % (time.monotonic() - begun, dearest(ended)), flush=True)
     again = [name for name in found if states.get(name, NO_END) == NO_END]
     if again:
         print("clients: tried once more, since they came to no end: %s" % " ".join(again), flush=True)

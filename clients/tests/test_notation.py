@@ -47,6 +47,16 @@ def sent(file):
     return [entry.text for entry in file.theory.entries]
 
 
+def read(file):
+    """What a file's commands are in notation, with the places that they lead to, and what is declared and shown behind each."""
+    notation = file.notation
+    commands = [(command.text, command.start, command.end, command.range(0, len(command.text)), command.word, command.name, str(command.error), command.package and
+                 command.package.text) for command in notation.commands]
+    shown = [View.of(file, number).term("lt (add _1 y) (prod2 z)") for number in range(len(commands))]
+    return (commands, shown, {number: str(one) for number, one in notation.declared.items()}, notation.blemishes, notation.misread, notation.names.constants,
+            notation.names.constructors, notation.has_packages, notation.lists, notation.simple, sent(file), file.starts, file.blemishes)
+
+
 def said(file):
     """The findings as what they mark, their severity and their words."""
     return [(file.lines.text[one.start:one.end], one.severity, one.text) for one in findings(file)]
@@ -79,6 +89,28 @@ class InFiles(unittest.TestCase):
             in_order, at_last = loaded(**texts), loaded(**texts)
             wanted = {name: [command.text for command in in_order[name].commands] for name in "ABCDEFG"}
             self.assertEqual({name: [command.text for command in at_last[name].commands] for name in "GFEDCBA"}, wanted, seed)
+
+    def test_what_stays_of_an_edited_file_is_read_as_it_is_afresh(self):
+        """Random edits of a file with names, declarations, proofs with rules, packages and names for terms, and of what it imports."""
+        source = random.Random(11)
+        pieces = ["g X%d `x + 1 < n`;;\n", "e REWRITE_TAC [GSYM X%d];;\n", "e EXISTS_TAC `2 + x`;;\n", "qed;;\n", "qed;;\n", "oops;;\n", "new_constant c%d `:num`;;\n",
+                  "infixl 18 ** prod2;;\n", "no_notation +;;\n", "new_definition D%d `f x = x + 1`;;\n", "new_type t%d 1;;\n", "(* c *)", "import A;;\n"]
+        seldom = ["let k = `3 + x`;;\n", "theorems all = [X1; X2];;\n", "sorry;;\n", "define f%d `f n = n + 1`;;\n", "simp [X1];;\n"]
+        texts, kept = {"A": NUMBERS, "B": "import A;;\n"}, 0
+        files = loaded(**texts)
+        for number in range(300):
+            name = "A" if source.random() < 0.05 else "B"
+            parts = texts[name].splitlines(True)
+            at = source.randrange(1, len(parts) + 1)
+            piece = "".join(source.choice(seldom if source.random() < 0.03 else pieces).replace("%d", str(source.randrange(4))) for _ in range(source.randrange(3)))
+            texts[name] = "".join(parts[:at]) + piece + "".join(parts[at + source.choice((0, 0, 1, 2)):][:40])
+            files[name].take(texts[name])
+            graph.with_imports(list(files.values()), lambda _, name: "no " + name)
+            afresh = loaded(**texts)
+            for one in "AB":
+                self.assertEqual(read(files[one]), read(afresh[one]), (number, one, texts))
+            kept += len(files["B"].cut.commands) - files["B"].notation.number_read
+        self.assertGreater(kept, 1000)
 
     def test_what_the_library_declares_is_not_forgotten_by_a_look_at_all_files(self):
         """As a search of theorems, and what can be done about an error, look at them, and the bridge does by itself when all is known."""

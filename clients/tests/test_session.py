@@ -53,7 +53,7 @@ class Short(unittest.TestCase):
         """Answers the next line of the newest server."""
         last = Played.made[-1]
         self.answered += 1
-        self.session.hear(server.Line(last, reply))
+        self.session.hear(server.Lines(last, [reply]))
 
     def answer_all(self, reply):
         while self.answered < len(Played.made[-1].sent):

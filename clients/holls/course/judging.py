@@ -28,7 +28,7 @@ from holls.findings import Severity, findings, is_sorry
 from holls.notation import OUTSIDE
 from holls.projects import SUFFIX
 from holls.protocol import Goals, Items, Lost, Made, Refusal
-from holls.session import Session
+from holls.session import AHEAD, Session
 from holls.sweep import Sweep, is_known
 from holls.text import Command
 
@@ -129,7 +129,7 @@ class _Judge:
         self._task, self._files = task, _Files(task)
         self._events: "queue.Queue[object]" = queue.Queue()
         self._sweep = Sweep()
-        self._session = Session(list(task.program), self._events, SERVED, self._sweep, lambda: None, task.seconds)
+        self._session = Session(list(task.program), self._events, SERVED, self._sweep, lambda: None, task.seconds, AHEAD)
         self._left = 0
         self._both: object = None
         self._answers = {one.name: _Answers() for one in self._files.exercises}

@@ -20,14 +20,14 @@ from holls.lsp.proving import Search, Searches, Tried
 from holls.lsp.publisher import Publisher
 from holls.lsp.workspace import Document, Workspace
 from holls.projects import OneProject
-from holls.server import Ended, Line, NoServer
+from holls.server import Ended, Lines, NoServer
 
 LOOK_SECONDS = 1.0
 """So often files on disk are looked at."""
 READ_SECONDS = 20.0
 """So often at most the statements are read ahead of a search."""
-TOGETHER = 256
-"""So many lines of the programs are heard together at most."""
+TOGETHER = 32
+"""So often at most what the programs say is heard together."""
 HELD_MESSAGES, HELD_LAST_SECONDS = 32, 2.0
 """So many messages of a page wait at most, and so long its bridge lasts behind it. An editor on this machine may have more under way."""
 SPARE_SECONDS = 0.01
@@ -154,9 +154,9 @@ class Bridge:
 
     def _take_all(self, event: object) -> None:
         """Takes an event, with those that wait already: what the programs say is heard together, up to the editor's next message."""
-        heard: List[Union[Line, Ended]] = []
+        heard: List[Union[Lines, Ended]] = []
         while True:
-            if not isinstance(event, (Line, Ended)):
+            if not isinstance(event, (Lines, Ended)):
                 self._hear(heard)
                 self._take(event)
                 return
@@ -166,7 +166,7 @@ class Bridge:
                 return
             event = self.events.get_nowait()
 
-    def _hear(self, heard: List[Union[Line, Ended]]) -> None:
+    def _hear(self, heard: List[Union[Lines, Ended]]) -> None:
         for server in list(self.servers.values()) if heard else []:
             self._guard(lambda server=server: server.session.hear(*heard) if server.session else None)
 

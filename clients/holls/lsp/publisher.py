@@ -131,7 +131,7 @@ class Publisher:
         slow = [entry.is_slow for entry in theory.entries].count(True)
         context = [blemish.text for blemish in document.file.context]
         notation = document.file.notation  # Another one where what an import declares is, though all that is sent is as it was.
-        return document.version, id(server), failure, context, theory.edits, notation, unknown, slow, self._is_done(document)
+        return document.version, id(server), failure, context, theory.edits, notation, unknown, slow
 
     def _send_unknown(self, document: Document, failure: Optional[str]) -> None:
         """Shows which commands' outcomes aren't known yet, as Lean's editors show what is being processed."""

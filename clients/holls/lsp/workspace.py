@@ -66,8 +66,7 @@ class Document:
         first = max(0, bisect_right(self.file.starts, start) - 1)
         seen = list(range(first + (first < len(self.file.commands) and self.file.commands[first].end < start), bisect_right(self.file.starts, end)))
         numbers += list(range(self.file.proof_begin(seen[0]), seen[-1] + 1)) if seen else []
-        slots = [self.file.slot(number) for number in numbers]
-        return [(self.file.theory, slot) for slot in slots if slot is not None]
+        return self.file.jobs(numbers)
 
     def is_seen_known(self) -> bool:
         """Whether all that is seen has its report."""

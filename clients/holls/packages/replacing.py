@@ -3,6 +3,7 @@
 from __future__ import annotations
 
 import re
+from functools import lru_cache
 from typing import AbstractSet, Callable, List, Optional, Sequence, Tuple, Union
 
 from holls.packages import listed, steps
@@ -11,6 +12,7 @@ from holls.packages.steps import Change
 from holls.surface.errors import Misread
 from holls.surface.plain import Segment
 from holls.surface.translation import Translation
+from holls.text import REMEMBERED
 
 _NAMES = re.compile(r"[A-Za-z_][A-Za-z0-9_']*")
 Placed = Tuple[str, Union[List[Change], Misread]]
@@ -24,10 +26,10 @@ def translated(found: Translation, word: str, lists: AbstractSet[str], standing:
     if word not in USING or found.error is not None:
         return found
     text = found.text
-    has_step = word == "e" and bool(steps.MAYBE.search(text))
+    may_have_step, has_types = _asks(text)
+    has_step = may_have_step and word == "e"
     has_list = bool(lists) and not lists.isdisjoint(_NAMES.findall(text))
     has_rules = placed is not None and placed[0] == text
-    has_types = listed.may_have_types(text) and bool(listed.OF_TYPES.search(text))
     if not has_step and not has_list and not has_rules and not has_types:
         return found
     now = standing()
@@ -46,6 +48,12 @@ def translated(found: Translation, word: str, lists: AbstractSet[str], standing:
     except RecursionError:
         return Translation("", None, Misread(0, 1, "this is nested too deeply for a package"), found.answers)
     return replaced(found, made) if made else found
+
+
+@lru_cache(REMEMBERED)
+def _asks(text: str) -> Tuple[bool, bool]:
+    """Whether a step of packages may stand in a text, and whether words for what a type's constructors are do."""
+    return bool(steps.MAYBE.search(text)), listed.may_have_types(text) and bool(listed.OF_TYPES.search(text))
 
 
 def _outside(changes: Sequence[Change], others: Sequence[Change]) -> List[Change]:

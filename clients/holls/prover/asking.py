@@ -4,11 +4,12 @@ from __future__ import annotations
 
 import queue
 import time
-from typing import Any, Dict, List, Optional, Sequence, Tuple, Union
+from collections import deque
+from typing import Any, Deque, Dict, List, Optional, Sequence, Tuple, Union
 
 from holls import protocol
 from holls.protocol import Goals, Made, Refusal
-from holls.server import Line, Server
+from holls.server import Lines, Server
 
 THEORY = "holls_prover"
 """The name of the copy in which steps are tried."""
@@ -28,6 +29,7 @@ class Asker:
 
     def _begin(self) -> None:
         self._events: "queue.Queue[object]" = queue.Queue()
+        self._replies: Deque[bytes] = deque()
         self._server = Server(self.program, self._events)
 
     def _renew(self) -> None:
@@ -62,17 +64,22 @@ class Asker:
         return self._answer(until)
 
     def _answer(self, until: Optional[float]) -> protocol.Reply:
-        seconds = self.seconds if until is None else max(0.01, until - time.monotonic())
+        if not self._replies:
+            self._replies.extend(self._heard(self.seconds if until is None else max(0.01, until - time.monotonic())))
+        reply = protocol.reply(self._replies.popleft())
+        if isinstance(reply, protocol.Unreadable):
+            raise Silent("hol_serve wrote a line that is no reply")
+        return reply
+
+    def _heard(self, seconds: float) -> List[bytes]:
+        """The next lines that the server writes."""
         try:
             event = self._events.get(timeout=seconds)
         except queue.Empty:
             raise Silent("hol_serve gave no answer in time") from None
-        if not isinstance(event, Line):
+        if not isinstance(event, Lines):
             raise Silent("hol_serve " + event.reason)
-        reply = protocol.reply(event.data)
-        if isinstance(reply, protocol.Unreadable):
-            raise Silent("hol_serve wrote a line that is no reply")
-        return reply
+        return event.lines
 
     def add(self, theory: str, texts: Sequence[str]) -> None:
         """Puts a theory behind those that stand."""
@@ -82,8 +89,8 @@ class Asker:
         self._ask_all(requests)
 
     def _ask_all(self, requests: Sequence[Dict[str, Any]]) -> None:
-        for request in requests:
-            self._server.send(protocol.line(request))
+        if requests:
+            self._server.send(b"\n".join(map(protocol.line, requests)))
         for _ in requests:
             self._answer(None)
 
@@ -112,8 +119,8 @@ class Asker:
 
     def step(self, text: str, until: Optional[float] = None) -> Union[Goals, Made, Refusal, protocol.Error]:
         """Puts a step behind the last command, and answers its report; one that is refused is taken out again."""
-        self._server.send(protocol.line({"op": "insert", "theory": THEORY, "at": self.count, "text": text}))
-        self._server.send(protocol.line({"op": "report", "theory": THEORY, "at": self.count}))
+        put = protocol.line({"op": "insert", "theory": THEORY, "at": self.count, "text": text})
+        self._server.send(put + b"\n" + protocol.line({"op": "report", "theory": THEORY, "at": self.count}))
         done, report = self._answer(until), self._answer(until)
         if not isinstance(done, protocol.Done):
             return done
