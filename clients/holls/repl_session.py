@@ -87,7 +87,7 @@ class Session:
 
     def own_words(self) -> Tuple[str, ...]:
         """The words that a line may begin with."""
-        return tuple(self._own) + tuple(word for word in (*notation.COMMANDS, *declarations.WORDS, *expansion.PACKAGES) if word not in self._own)
+        return tuple(self._own) + tuple(word for word in (*notation.COMMANDS, *declarations.WORDS, *expansion.MAKING) if word not in self._own)
 
     # Lines
 
@@ -114,7 +114,7 @@ class Session:
             return self._save(rest, True)
         if word in self._own:
             return self._own[word]("" if rest.replace(" ", "") == "()" else rest)
-        if word in notation.COMMANDS or word in declarations.WORDS or word in expansion.PACKAGES:
+        if word in notation.COMMANDS or word in declarations.WORDS or word in expansion.MAKING:
             return self._make(line)
         near = notation.near(word, self.own_words())
         raise Wrong("`%s` begins no command%s; `help` lists them" % (word, ", perhaps %s does" % near if near else ""))

@@ -3,6 +3,7 @@
 import json
 import pathlib
 import queue
+import subprocess
 import tempfile
 import time
 import types
@@ -16,7 +17,7 @@ from holls.session import AHEAD, WINDOW, Session
 from holls.sweep import Sweep
 from holls.theory import Theory
 from tests.fake_server import EDITS, Documents
-from tests.helpers import PYTHON, proofs
+from tests.helpers import CLIENTS, PYTHON, SECONDS, proofs
 from tests.test_notation import NUMBERS, loaded
 
 SERVED = frozenset(EDITS)
@@ -188,6 +189,16 @@ class Together(OverPlayed):
         self.assertEqual(sum(len(one.lines) for one in told), 400)
         self.assertLessEqual(len(told), 3)
         self.assertTrue(all(0 < seconds <= server.REST_SECONDS for seconds in rests))
+
+
+class Loaded(unittest.TestCase):
+    def test_a_file_without_packages_is_read_without_what_expands_them(self):
+        lines = ["import sys", "sys.path.insert(0, %r)" % str(CLIENTS), "from holls import check, findings", "from holls.files import File",
+                 "file = File('A.hol')", "file.take(sys.argv[1])", "assert file.commands and findings.findings(file)",
+                 "print('holls.packages.expanding' in sys.modules)"]
+        for text, is_loaded in ((NUMBERS + "g X `x + 1 < ;;", False), (NUMBERS + "define F `f x = x + 1`;;", True)):
+            done = subprocess.run([*PYTHON, "-c", "\n".join(lines), text], stdout=subprocess.PIPE, timeout=SECONDS, check=True)
+            self.assertEqual(done.stdout.decode().strip(), str(is_loaded), text)
 
 
 if __name__ == "__main__":

@@ -11,6 +11,7 @@ import re
 from typing import Dict, List, NamedTuple, Optional, Tuple
 
 from holls.notation import FORWARD, TACTICALS
+from holls.packages.forms import DEFINE_TYPE as FORM
 from holls.packages.parsing import Place
 from holls.packages.scope import Asking, Constructor, Data
 from holls.packages.terms import LOGIC, Type, tyvars
@@ -19,7 +20,6 @@ from holls.surface.reader import Reader
 from holls.surface.tokens import END, NUMBER, WORD
 from holls.surface.tree import Type as WrittenType
 
-FORM = "define_type NAME = CONSTRUCTOR type .. | CONSTRUCTOR type .. | .."
 RESERVED = frozenset((*TACTICALS, *FORWARD))
 MOST_CONSTRUCTORS = 100
 _MUTUAL = ("types that are defined by one another aren't given: make one type of the constructors of all, with a relation (inductive) that says what is of which; "

@@ -3,13 +3,12 @@
 from __future__ import annotations
 
 from dataclasses import dataclass
-from typing import Any, Callable, Dict, List, Mapping, Optional, Tuple
+from typing import Any, Dict, List, Mapping, Optional, Tuple
 
-from holls.packages import datatypes, functions, lets, listed, records, relations, simplifying, specification
+from holls.packages import forms, lets, listed, simplifying
 from holls.packages.output import HIDDEN, PUBLIC, Output, Plain
 from holls.packages.parsing import Place
 from holls.packages.scope import THEORY, Asking, Standing, agrees
-from holls.packages.type_commands import TypeCommands
 from holls.surface.errors import Misread
 from holls.surface.table import Table
 from holls.surface.vocabulary import Asked, Vocabulary
@@ -38,19 +37,10 @@ class _Kept:
     vocabulary: Mapping[Tuple[str, str], Optional[bool]]
 
 
-def _define_type(text: str, place: Place, out: Output) -> None:
-    written = datatypes.read(text, "define_type", place)
-    data = datatypes.analysed(written, out.asking)
-    TypeCommands(data, out, {one.name: (one.start, one.end) for one in written.constructors}).emit()
-    out.asking.own.data[data.name] = data
-
-
-PACKAGES: Dict[str, Callable[[str, Place, Output], None]] = {
-    "define_type": _define_type, "define": functions.expand, "inductive": relations.expand,
-    "specification": specification.expand, "record": records.expand}
-"""The packages by their words, each with what expands it."""
-WORDS: Dict[str, str] = {"define_type": datatypes.FORM, "define": functions.FORM, "inductive": relations.FORM,
-                         "specification": specification.FORM, "record": records.FORM, "sorry": "sorry", "theorems": listed.FORM,
+MAKING = ("define_type", "define", "inductive", "specification", "record")
+"""The packages that stand for commands."""
+WORDS: Dict[str, str] = {"define_type": forms.DEFINE_TYPE, "define": forms.DEFINE, "inductive": forms.INDUCTIVE,
+                         "specification": forms.SPECIFICATION, "record": forms.RECORD, "sorry": "sorry", "theorems": listed.FORM,
                          "let": lets.FORM, "simp": simplifying.FORM}
 """The words that begin a package, and how each is written."""
 OF_FILES = ("theorems", "let", "simp")
@@ -75,6 +65,8 @@ def expanded(text: str, word: str, table: Table, vocabulary: Vocabulary, standin
 
 
 def _expanded(text: str, word: str, place: Place, asking: Asking) -> Expansion:
+    from holls.packages.expanding import PACKAGES  # Here alone: most files have no package, and are read without what expands one.
+
     out = Output(asking)
     try:
         if not asking.has_base:

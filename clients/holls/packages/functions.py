@@ -14,6 +14,7 @@ from holls.packages import measures
 from holls.packages.calls import calls
 from holls.packages.clauses import Clause, ClauseReader, Function, error
 from holls.packages.datatypes import RESERVED, argument_names
+from holls.packages.forms import DEFINE as FORM
 from holls.packages.matching import (MOST_LEAVES, Decisions, case_term, constructor_types, is_shadowed, leaf_statement, matched, splits)
 from holls.packages.numerals import RULES, norm, of_numeral
 from holls.packages.output import HIDDEN, PUBLIC, Output, Steps, conjuncts
@@ -25,7 +26,6 @@ from holls.packages.terms import Term, app, binder, conj, const, eq, exists, fre
 from holls.packages.type_commands import need_cases
 from holls.surface.errors import Misread
 
-FORM = "define NAME [by_measure `measure` .. [with THEOREM]] `clauses`"
 
 
 class Measure(NamedTuple):

@@ -10,6 +10,7 @@ from typing import List, Sequence
 from holls.packages import datatypes, functions
 from holls.packages.clauses import ClauseReader
 from holls.packages.datatypes import WrittenConstructor
+from holls.packages.forms import RECORD as FORM
 from holls.packages.layout import Layout
 from holls.packages.output import PUBLIC, Output
 from holls.packages.parsing import Place, Word
@@ -19,7 +20,6 @@ from holls.packages.type_commands import TypeCommands
 from holls.surface.errors import Misread
 from holls.surface.table import EMPTY
 
-FORM = "record NAME = CONSTRUCTOR field:type .."
 MOST_FIELDS = 15
 
 

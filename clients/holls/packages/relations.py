@@ -10,6 +10,7 @@ from __future__ import annotations
 
 from typing import Dict, List, Mapping, Optional, Sequence, Tuple
 
+from holls.packages.forms import INDUCTIVE as FORM
 from holls.packages.measures import path
 from holls.packages.output import PUBLIC, Output, Steps, conjuncts
 from holls.packages.parsing import Place, Word, name_of, usage, words
@@ -19,7 +20,6 @@ from holls.packages.terms import (Term, Type, app, args_of, arity, beta, conj, c
                                   tyshow, var)
 from holls.surface.errors import Misread
 
-FORM = "inductive NAME [THEOREM; ..] `rules`, where theorems in brackets may be left out"
 Env = Dict[str, Term]
 
 

@@ -7,12 +7,12 @@ from __future__ import annotations
 
 from typing import Dict, List, Tuple
 
+from holls.packages.forms import SPECIFICATION as FORM
 from holls.packages.output import PUBLIC, Output, Steps
 from holls.packages.parsing import Place, Word, name_of, usage, words
 from holls.packages.terms import Term, binder, const, exists, is_binder, subst, term_tyvars, tyvars, var
 from holls.surface.errors import Misread
 
-FORM = "specification NAME CONSTANT .. THEOREM"
 
 
 def expand(text: str, _: Place, out: Output) -> None:

@@ -7,6 +7,7 @@ import asyncio
 import base64
 import functools
 import html
+import importlib
 import io
 import os
 import secrets
@@ -137,7 +138,8 @@ def _serve(given: argparse.Namespace) -> int:
 
 
 def _rehearse(seconds: int, limits: bridge.Limits, course: Optional[Course]) -> None:
-    """Does once what each page has its bridge do, so that what that loads is shared by all."""
+    """Does once what each page has its bridge do, so that what that loads is shared by all; and loads what a package of its own would."""
+    importlib.import_module("holls.packages.expanding")
     texts = {"lesson": LESSON, **{one.name: one.text for one in course.files}} if course else {"lesson": LESSON}
     where = {"textDocument": {"uri": "hol:/lesson.hol"}, "position": {"line": 2, "character": 6}}
     asked = ["proof/goals", "textDocument/completion", "textDocument/hover", "textDocument/documentSymbol", "textDocument/codeLens", "hol/manual"]
