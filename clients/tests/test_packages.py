@@ -541,6 +541,21 @@ class OverTheProgram(unittest.TestCase):
         for name in ("COLOURS", "exp_RECURSION", "exp_INJECTIVE", "tree_DISTINCT", "VAL", "GCD", "CHOOSE", "FIB", "MAJ", "STAR_CASES", "EV_STRONG_INDUCT", "point_EXT", "TURNED", "RULED"):
             self.assertNotIn("axiom", rests[name])
 
+    def test_many_constructors_with_arguments_are_accepted(self):
+        kinds = ("K%d num", "K%d num many", "K%d many many", "K%d A (many list)", "K%d")
+        text = "define_type many = %s;;\n" % " | ".join(kinds[number % 5] % number for number in range(20))
+        text += "g APART `!x (y:A many). ~(K3 x [] = K18 x [y]) /\\ ~((K19:A many) = K4)`;;\n" \
+                "e REWRITE_TAC [distinctness \"many\"; injectivity \"many\"; FORALL_SIMP];;\nqed;;\n"
+        self.assertLess(len(read(text).commands), 100)
+        status, said = checked(text, "--alone", "--no-axioms")
+        self.assertEqual(status, 0, said)
+
+    def test_the_name_of_a_constructor_may_end_like_that_of_a_function_in_a_proof(self):
+        text = "define_type nest = Defn nest | Base;;\n" \
+               "define HALVED `HALVED Base = 0 /\\ HALVED (Defn Base) = 0 /\\ HALVED (Defn (Defn x)) = SUC (HALVED x)`;;\n"
+        status, said = checked(text, "--alone", "--no-axioms")
+        self.assertEqual(status, 0, said)
+
     def test_random_declarations_are_accepted(self):
         """So many as HOLLS_DECLARATIONS says, by the seed HOLLS_SEED."""
         number, seed = int(os.environ.get("HOLLS_DECLARATIONS", "48")), int(os.environ.get("HOLLS_SEED", "1"))

@@ -159,27 +159,27 @@ class TypeCommands:
 
     def _equations(self) -> None:
         distinct, injective = self._pairs()
-        counted = self._counted("; sum_INJECTIVE; sum_DISTINCT; INR_NOT_INL")
-        every = "REPEAT CONJ_TAC THEN REPEAT GEN_TAC"
-        each = "%%s THEN DISCH_TAC THEN %s THEN %s THEN FIRST_ASSUM MATCH_MP_TAC THEN %s" % (every, self.definitions, counted)
-        if distinct and not self.is_plain:
-            take = "MATCH_MP_TAC (SPEC `%s` (INST_TYPE [`:%s`,`:A`; `:%s`,`:B`] pk_DIFFERENT))" % (self.take, self.layout.type, self.tree)
-            apart = "%s THEN %s THEN REWRITE_TAC [%s; pk_ROSE_INJ; sum_INJECTIVE; sum_DISTINCT; INR_NOT_INL]" % (every, take, "; ".join(self._taken(each)))
-        else:
-            apart = each % self._with("pk_MADE_NE")
+        each = "%%s THEN DISCH_TAC THEN REPEAT CONJ_TAC THEN REPEAT GEN_TAC THEN %s THEN FIRST_ASSUM MATCH_MP_TAC THEN %s" % (
+            self.definitions, self._counted("; sum_INJECTIVE; sum_DISTINCT; INR_NOT_INL"))
+        apart = each % self._with("pk_MADE_NE") if self.is_plain else self._tagged()
         for kind, parts, proof in (("DISTINCT", distinct, apart), ("INJECTIVE", injective, each % self._with("pk_MADE_EQ") + self._injected())):
             for number, part in enumerate(chunks(parts)):
                 self.out.prove("%s_%s%s" % (self.name, kind, number + 1 if number else ""), " /\\ ".join(part), proof, PUBLIC)
 
-    def _taken(self, each: str) -> List[str]:
-        """The names of theorems that say once for each constructor what it is made of."""
-        name, layout, found = self.name, self.layout, []
-        every = [layout.forall(at, "dest_%s %s = pk_ROSE %s (MAP dest_%s %s)" % (name, layout.term(at), layout.label(at), name, layout.children(at)))
-                 for at in range(layout.count)]
-        for part in chunks(every):
-            found.append("pk_%s_DEST%s" % (name, len(found) + 1 if found else ""))
-            self.out.prove(found[-1], " /\\ ".join(part), each % self._with("pk_MADE_DEST"))
-        return found
+    def _tagged(self) -> str:
+        """The steps by which constructors are apart by their tags, lists of bits, which are made here: the labels tell them apart too, but have large types,
+        and there are as many pairs as constructors squared."""
+        layout, constant, bits = self.layout, "pk_%s_TAG" % self.name, "bool list"
+        tags = [_tag(at, layout.count) for at in range(layout.count)]
+        self.out.put("new_definition %s_DEF `%s = @fn:%s->%s. %s`" % (
+            constant, constant, layout.tight, bits, layout.every(lambda at: "fn %s = %s" % (layout.term(at), tags[at]))))
+        self.out.made(constant + "_DEF", None)
+        recursion = "(INST_TYPE [`:%s`,`:%s`] %s)" % (bits, self.result, self.data.recursion)
+        for at in range(layout.count):
+            recursion = "(SPEC `%s` %s)" % (_constant_function(layout, at, bits, tags[at]), recursion)
+        self.out.prove(constant, layout.every(lambda at: "%s %s = %s" % (constant, layout.term(at), tags[at])), _chosen(recursion, constant + "_DEF"))
+        different = "SPEC `%s:%s->%s` (INST_TYPE [`:%s`,`:A`] pk_DIFFERENT)" % (constant, layout.tight, bits, layout.type)
+        return "REPEAT CONJ_TAC THEN REPEAT GEN_TAC THEN MATCH_MP_TAC (%s) THEN REWRITE_TAC [%s; pk_TAGS]" % (different, constant)
 
     def _pairs(self) -> Tuple[List[str], List[str]]:
         """That constructors are apart, and that one of equal ones has equal arguments."""
@@ -287,11 +287,24 @@ def need_cases(data: Data, out: Output) -> None:
 
 
 def _case_function(layout: Layout, at: int, result: str) -> str:
+    applied = " ".join(["(f%d:%s)" % (at, layout.case_type(at, result))] + [one.name for one in layout.arguments[at]])
+    return _constant_function(layout, at, result, applied)
+
+
+def _constant_function(layout: Layout, at: int, result: str, body: str) -> str:
+    """The function of a constructor's arguments, and of the values of those of the type itself, on which what it is doesn't depend."""
     if not layout.arguments[at]:
-        return "f%d:%s" % (at, result)
+        return body
     values = ["(rr%d:%s)" % (place, result if one.kind == "r" else result + " list") for place, one in enumerate(layout.arguments[at]) if one.kind in "rl"]
-    return "\\%s. (f%d:%s) %s" % (" ".join([layout.variables(at)] + values), at, layout.case_type(at, result),
-                                  " ".join(one.name for one in layout.arguments[at]))
+    return "\\%s. %s" % (" ".join([layout.variables(at)] + values), body)
+
+
+def _tag(at: int, of: int) -> str:
+    """The number of a constructor, of so many, as a list of bits, the least one first."""
+    found = "(NIL:bool list)"
+    for bit in reversed(range((of - 1).bit_length())):
+        found = "(CONS %s %s)" % ("T" if at >> bit & 1 else "F", found)
+    return found
 
 
 def _chosen(recursion: str, definition: str) -> str:
@@ -304,14 +317,13 @@ def need_size(data: Data, out: Output) -> None:
     if data.is_of_library or not data.size or out.asking.is_constant(data.size):
         return
     layout = Layout(data, out.asking)
-    equations = layout.every(lambda at: "fn %s = %s" % (layout.term(at), _size(layout, at, "(fn %s)", "(pk_SUM (MAP fn %s))")))
     theorem = "pk_%s_SIZE_DEF" % data.name
-    out.put("new_definition %s `%s = @fn:%s->num. %s`" % (theorem, data.size, layout.tight, equations))
+    out.put("new_definition %s `%s = @fn:%s->num. %s`" % (theorem, data.size, layout.tight, _size_equations(layout, "fn")))
     out.made(theorem, None)
     recursion = "(INST_TYPE [`:num`,`:%s`] %s)" % (data.result, data.recursion)
     for at in range(layout.count):
         recursion = "(SPEC `%s` %s)" % (_size_function(layout, at), recursion)
-    out.prove(data.size, equations.replace("fn ", data.size + " "), _chosen(recursion, theorem), PUBLIC)
+    out.prove(data.size, _size_equations(layout, data.size), _chosen(recursion, theorem), PUBLIC)
     out.constant(data.size, fun(data.type, ("num",)))
     smaller = [layout.forall(at, "lt (%s %s) (%s %s)" % (data.size, one.name, data.size, layout.term(at)))
                for at in range(layout.count) for one in layout.arguments[at] if one.kind == "r"]
@@ -319,6 +331,10 @@ def need_size(data: Data, out: Output) -> None:
         out.prove(data.less, " /\\ ".join(smaller),
                   "REWRITE_TAC [%s; LT_SUC_LE] THEN REPEAT CONJ_TAC THEN REPEAT GEN_TAC THEN REWRITE_TAC [LE_REFL; LE_ADD; LE_ADDR] THEN "
                   "REPEAT (MATCH_MP_TAC pk_LESS_RIGHT THEN REWRITE_TAC [LE_REFL; LE_ADD; LE_ADDR])" % data.size, PUBLIC)
+
+
+def _size_equations(layout: Layout, head: str) -> str:
+    return layout.every(lambda at: "%s %s = %s" % (head, layout.term(at), _size(layout, at, "(%s %%s)" % head, "(pk_SUM (MAP %s %%s))" % head)))
 
 
 def _size(layout: Layout, at: int, of_part: str, of_list: str) -> str:
