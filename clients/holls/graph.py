@@ -7,7 +7,7 @@ from collections import deque
 from typing import Callable, Dict, Iterable, List, Sequence, Set, Union
 
 from holls.files import File
-from holls.projects import LIBRARY
+from holls.projects import LIBRARY, in_library
 from holls.text import Blemish
 
 Load = Callable[[File, str], Union[File, str]]
@@ -69,7 +69,14 @@ def _refuse_circles(by_name: Dict[str, File]) -> None:
         refused = [name for name in file.imports if name in parts and parts[name] == parts[own]]
         file.refuse(refused)
         for name, circle in _circles(own, refused, importers, parts).items():
-            tell_import(file, name, "imports go in a circle here: %s; take one of them out" % " imports ".join(circle + circle[:1]))
+            tell_import(file, name, _of_circle(circle))
+
+
+def _of_circle(circle: List[str]) -> str:
+    """Words for a circle. Who imports a theory of the library into a file of that name means the library's."""
+    if len(circle) == 1 and in_library(circle[0]):
+        return "this file is the theory %s itself: rename it, so that the library's %s can be imported" % (circle[0], circle[0])
+    return "imports go in a circle here: %s; take one of them out" % " imports ".join(circle + circle[:1])
 
 
 def _parts(by_name: Dict[str, File], importers: Dict[str, List[str]]) -> Dict[str, str]:

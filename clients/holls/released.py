@@ -9,6 +9,7 @@ import hashlib
 import json
 import os
 import platform
+import stat
 import tempfile
 from dataclasses import dataclass
 from pathlib import Path
@@ -62,21 +63,37 @@ def program(of: Release) -> str:
     """The path of the released program, unpacked. What stands there already is taken where its sum is right."""
     if (platform.system(), platform.machine()) != (SYSTEM, MACHINE):
         raise Unusable("the released program is for %s on %s, and this is %s on %s" % (SYSTEM, MACHINE, platform.system(), platform.machine()))
-    folder = _kept()
-    path = folder / ("hol_serve-" + of.sha256[:16])
-    try:
-        if not _has_sum(path, of.sha256):
-            _put(path, _unpacked(of))
-    except OSError as error:
-        raise Unusable("the released program can't be put into %s (%s): have XDG_CACHE_HOME name another folder" % (
-            folder, error.strerror or error)) from None
-    return str(path)
+    why = []
+    for folder in (_kept(), _temporary()):
+        path = folder / ("hol_serve-" + of.sha256[:16])
+        try:
+            if why:
+                _make_alone(folder)
+            if not _has_sum(path, of.sha256):
+                _put(path, _unpacked(of))
+            return str(path)
+        except OSError as error:
+            why.append("%s (%s)" % (folder, error.strerror or error))
+    raise Unusable("the released program can't be put into %s: have XDG_CACHE_HOME name another folder" % " or ".join(why))
 
 
 def _kept() -> Path:
     """The folder that keeps it."""
     named = os.environ.get("XDG_CACHE_HOME", "")
     return (Path(named) if os.path.isabs(named) else Path(os.path.expanduser("~")) / ".cache") / "holls"
+
+
+def _temporary() -> Path:
+    """The folder that keeps it where the other one can't be written, as in a container or a service, whose user often has no home."""
+    return Path(tempfile.gettempdir()) / ("holls-%d" % os.getuid())
+
+
+def _make_alone(folder: Path) -> None:
+    """Makes a folder where all may write. One that stands there already has to be this user's, and nobody else may enter it."""
+    folder.mkdir(mode=0o700, exist_ok=True)
+    found = os.lstat(folder)
+    if not stat.S_ISDIR(found.st_mode) or found.st_uid != os.getuid() or found.st_mode & 0o077:
+        raise OSError("another one may write there")
 
 
 def _has_sum(path: Path, sha256: str) -> bool:

@@ -48,6 +48,12 @@ local function begin()
   vim.wait(500)
   table.insert(results.begun, goals())
   vim.cmd('HolGoals')
+  results.echoed = {}
+  vim.api.nvim_echo = function(chunks) table.insert(results.echoed, chunks[1][1]) end
+  local client = vim.lsp.get_client_by_id(1)
+  for _, value in ipairs({ { kind = 'begin', title = 'Finding a proof' }, { kind = 'report', message = 'logic' }, { kind = 'end' } }) do
+    client.handlers['$/progress'](nil, { token = 'holls/search/1', value = value }, { client_id = 1 }, {})
+  end
 end
 
 local function run()

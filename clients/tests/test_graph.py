@@ -51,6 +51,12 @@ class Graphs(unittest.TestCase):
         told = {blemish.text for file in given for blemish in file.context}
         self.assertEqual(told, {"imports go in a circle here: F000 imports F001 imports F002 imports F003 imports F004 imports F000; take one of them out"})
 
+    def test_a_file_by_the_name_of_a_theory_that_it_imports_is_to_be_renamed(self):
+        given = files({"lists": ["lists"]})
+        graph.with_imports(given, lambda _, name: "there is none")
+        self.assertEqual([blemish.text for blemish in given[0].context],
+                         ["this file is the theory lists itself: rename it, so that the library's lists can be imported"])
+
     def test_the_shortest_circle_is_told(self):
         given = files({"A": ["B", "C"], "B": ["C"], "C": ["A"], "D": ["D", "A"]})
         graph.with_imports(given, lambda _, name: "there is none")

@@ -42,7 +42,10 @@ class InNeovim(unittest.TestCase):
 
     def test_the_goal_window_of_a_new_file_is_filled_once_the_bridge_has_begun(self):
         with tempfile.TemporaryDirectory() as name:
-            begun = self.run_in(pathlib.Path(name), BEGIN="yes")["begun"]
+            found = self.run_in(pathlib.Path(name), BEGIN="yes")
+        self.assertNotIn("failure", found)
+        self.assertEqual(found["echoed"], ["Finding a proof: ..", "Finding a proof: logic", ""])
+        begun = found["begun"]
         self.assertEqual([one for one in begun if "no answer" in one], [])
         self.assertEqual(begun[-1], "no proof is open", begun)
 

@@ -81,11 +81,28 @@ class Released(unittest.TestCase):
         self.assertIn("this Python was built without lzma", str(found.exception))
         self.assertIn("xz -dk", str(found.exception))
 
-    def test_a_folder_that_takes_nothing_is_named(self):
+    def test_a_user_without_a_home_has_it_in_the_temporary_folder(self):
+        """As in a container, or in the service of docs/SERVE.md, where nothing else can be written."""
         (self.room / "cache").write_text("a file")
-        with self.assertRaises(server.NoServer) as found:
-            server.find()
-        self.assertIn("XDG_CACHE_HOME", str(found.exception))
+        temporary = self.room / "tmp"
+        temporary.mkdir()
+        with mock.patch.object(tempfile, "tempdir", str(temporary)):
+            found = pathlib.Path(server.find()[0])
+            self.assertEqual(found.parent, temporary / ("holls-%d" % os.getuid()))
+            self.assertEqual(found.parent.stat().st_mode & 0o777, 0o700)
+            self.assertEqual(server.find(), [str(found)])
+
+    def test_folders_that_take_nothing_or_are_anothers_are_named(self):
+        (self.room / "cache").write_text("a file")
+        temporary = self.room / "tmp"
+        temporary.mkdir()
+        own = temporary / ("holls-%d" % os.getuid())
+        for make in (lambda: own.symlink_to(self.room), lambda: own.mkdir(mode=0o700) or own.chmod(0o777), lambda: own.write_text("a file")):
+            make()
+            with mock.patch.object(tempfile, "tempdir", str(temporary)), self.assertRaises(server.NoServer) as found:
+                server.find()
+            self.assertIn("have XDG_CACHE_HOME name another folder", str(found.exception))
+            own.rmdir() if own.is_dir() and not own.is_symlink() else own.unlink()
 
     def test_what_is_built_comes_first(self):
         built = self.room / "built"

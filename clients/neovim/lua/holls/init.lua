@@ -174,6 +174,16 @@ function M.search(query, conclusion)
   end, 0)
 end
 
+-- Says below the windows what a search of a proof tries, which may take some seconds: Neovim itself shows no progress.
+local function show_progress(failure, result, context, more)
+  vim.lsp.handlers['$/progress'](failure, result, context, more)
+  local value = result.value or {}
+  if tostring(result.token):match('^holls/search/') then
+    local text = value.kind == 'end' and '' or 'Finding a proof: ' .. (value.message or '..')
+    vim.api.nvim_echo({ { text:sub(1, vim.o.columns - 15) } }, false, {})
+  end
+end
+
 local function config()
   local command = settings.command or { here .. '/bin/holls', 'lsp' }
   return {
@@ -191,6 +201,7 @@ local function config()
         M.update()
       end,
       ['$/hol/fileProgress'] = mark_unknown,
+      ['$/progress'] = show_progress,
     },
     on_exit = function(status)
       client_id = nil
