@@ -67,7 +67,7 @@ class Prompt:
         if self.is_terminal:
             _begin_editing(self.session)
             print("hol-serve's prompt: %s. `help` lists the commands; Tab completes, Ctrl-D ends." % (
-                "theory %s, %d commands" % (self.session.theory.name, len(self.session.theory.commands))))
+                "theory %s, %d commands" % (self.session.theory.name, self.session.count)))
         while True:
             try:
                 for command in _commands(self._read()):

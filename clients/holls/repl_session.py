@@ -81,6 +81,11 @@ class Session:
         return self.theory.text.rstrip() + ("\n\n" + self.state.text if self.state else "\n")
 
     @property
+    def count(self) -> int:
+        """How many commands stand, as they are written: a package is one, whatever it stands for."""
+        return self.theory.file.outline.commands
+
+    @property
     def is_saved(self) -> bool:
         """Whether what was proved has been saved."""
         return self.theory.text.strip() == self.saved.strip()
@@ -219,7 +224,7 @@ class Session:
         if not self._before:
             raise Wrong("nothing was accepted in this session that could be taken back")
         self.theory, self.states = self._before.pop()
-        count = len(self.theory.commands)
+        count = self.count
         return Told("taken back: %d command%s" % (count, " stands" if count == 1 else "s stand"), self.state)
 
     def _let(self, rest: str) -> Told:
@@ -334,7 +339,7 @@ class Session:
             raise Wrong("%s can't be written: %s" % (path, error.strerror or error)) from None
         self.saved = self.theory.text
         rest = "; the open proof of %s isn't in it" % self.proof.name if self.proof else ""
-        return Told("%s has %d commands%s" % (path, len(self.theory.commands), rest))
+        return Told("%s has %d command%s%s" % (path, self.count, "" if self.count == 1 else "s", rest))
 
     def _help(self, _: str) -> Told:
         return Told(HELP)
