@@ -32,7 +32,11 @@ def main():
         return 0
     units = checking.units(check.ordered([str(ROOT / "theories")]))
     text = exporting.written([unit.file for unit in units], 0 if given.all else given.sample)
-    outcome = hol_light.outcome(hol_light.run(text))
+    try:
+        outcome = hol_light.outcome(hol_light.run(text))
+    except hol_light.NoHolLight as error:
+        print(f"{error}\ntwo kernels: 0 passed, 1 failed")
+        return 1
     for kind, told in outcome.told:
         if kind == "refused" or given.all:
             print(f"{kind} {told}")

@@ -37,6 +37,13 @@ e REWRITE_TAC [];;
 e GEN_TAC THEN ACCEPT_TAC TRUTH;;
 qed;;
 """
+NESTED = """new_type both 2;;
+new_type seq 1;;
+new_definition D `d (l:(A,B)both seq seq) <=> T`;;
+g USED `!l:(A,B)both seq seq. d l <=> T`;;
+e REWRITE_TAC [D];;
+qed;;
+"""
 WRONG = """g WRONG `!x y:A. x = y`;;
 e REPEAT GEN_TAC THEN REFL_TAC;;
 qed;;
@@ -95,12 +102,15 @@ class Writing(unittest.TestCase):
 
     def test_symbols_and_types_that_hol_light_would_join(self):
         self.assertEqual(ocaml.spaced("~~p /\\ x<=>y"), "~ ~ p /\\ x <=> y")
-        self.assertEqual(ocaml.spaced("x:A list list", ("list",)), "x : ((A)list)list")
+        for text, made in (("x:A list list", "x : ( A list ) list"), ("(x:A list) = y", "( x : A list ) = y"),
+                           ("x:(A,B)prod list option", "x : ( ( ( A , B ) prod ) list ) option"), ("f:num list->B", "f : num list -> B"),
+                           ("x:((A option list,B)sum,num list)prod", "x : ( ( ( A option ) list , B ) sum , num list ) prod")):
+            self.assertEqual(ocaml.spaced(text, ("num", "list", "option", "prod", "sum")), made)
 
     def test_what_makes_types_and_constants(self):
         made = written("new_type T 1;;\nnew_constant c `:A T T`;;\nnew_axiom AX `c = c:A T T`;;\nnew_definition D `d (x:A) <=> T`;;\n"
                        "new_basic_type_definition U to_U from_U ONE TWO AX;;\n")
-        self.assertEqual(made, ['new_type("T",1);;', 'new_constant("c",quoted_type "((A)T)T");;', 'let t_AX = new_axiom (quoted "c = c : ((A)T)T");;',
+        self.assertEqual(made, ['new_type("T",1);;', 'new_constant("c",quoted_type "( A T ) T");;', 'let t_AX = new_axiom (quoted "c = c : ( A T ) T");;',
                                 'let t_D = new_definition (quoted "d ( x : A ) <=> T");;',
                                 'let t_ONE,t_TWO = new_basic_type_definition "U" ("to_U","from_U") t_AX;;'])
 
@@ -128,13 +138,18 @@ class Writing(unittest.TestCase):
         self.assertIn("apt-get install hol-light", complaint.getvalue())
 
     def test_outcome(self):
-        printed = "x\n@ours A: step 1: GEN_TAC\n@refused B: goals remain; ours: goals remain\n@summary 3 1 2 1\n"
+        printed = "x\n@ours A: step 1: GEN_TAC\n@refused B: goals remain; ours: goals remain\n@summary 3 1 2 1 of 7\n"
         found = hol_light.outcome(printed)
         self.assertEqual((found.theirs, found.ours, found.given, found.refused), (3, 1, 2, 1))
         self.assertEqual([kind for kind, _ in found.told], ["ours", "refused"])
         with self.assertRaises(hol_light.NoHolLight) as caught:
             hol_light.outcome("Error: Unbound value t_A\n")
         self.assertIn("Unbound value t_A", str(caught.exception))
+
+    def test_a_theorem_that_hol_light_lost_is_told(self):
+        with self.assertRaises(hol_light.NoHolLight) as caught:
+            hol_light.outcome('Exception: Failure "parse_type".\nError: Unbound value t_D\n@summary 3 1 2 1 of 8\n')
+        self.assertEqual(str(caught.exception), 'HOL Light came to 7 of 8 theorems: Exception: Failure "parse_type".')
 
 
 @unittest.skipUnless(hol_light.is_installed(), "HOL Light isn't installed")
@@ -143,6 +158,12 @@ class Running(unittest.TestCase):
         status, text, _ = exported(FOR_OURS)
         self.assertEqual(status, 0)
         self.assertIn('let t_NAMED = proved "NAMED"', text)
+
+    def test_types_of_types_and_a_statement_that_hol_light_does_not_read(self):
+        text = exporting.written([file_of(NESTED)]).replace("summary 1;;", 'let t_A = given "A" "p = x y )";;\nlet t_B = given "B" "T";;\nsummary 3;;')
+        found = hol_light.outcome(hol_light.run(text))
+        self.assertEqual((found.theirs, found.given, found.refused), (1, 1, 1))
+        self.assertTrue(found.told[0][1].startswith("A: its statement can't be read: "), found.told)
 
     def test_theorems_and_what_is_none(self):
         status, told, complaint = exported(FOR_OURS + WRONG, "--run")

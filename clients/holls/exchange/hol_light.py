@@ -15,7 +15,7 @@ LAST = "ind_defs.ml"
 """HOL Light is loaded up to this file, before it has types and choice: what is exported makes its own."""
 ADVICE = "HOL Light isn't installed in %s (Debian: apt-get install hol-light libnum-ocaml-dev)" % INSTALLED
 
-_SUMMARY = re.compile(r"^@summary (\d+) (\d+) (\d+) (\d+)$", re.M)
+_SUMMARY = re.compile(r"^@summary (\d+) (\d+) (\d+) (\d+) of (\d+)$", re.M)
 _TOLD = re.compile(r"^@(ours|refused) (.*)$", re.M)
 _FAULT = re.compile(r"^(?:Error|Exception)\b.*$", re.M)
 
@@ -54,10 +54,12 @@ def run(text: str, last: str = LAST) -> str:
 
 
 def outcome(printed: str) -> Outcome:
-    """What the summary says. Raises NoHolLight, with the first fault, where there is none."""
+    """What the summary says. Raises NoHolLight, with the first fault, where there is none, or where HOL Light lost a theorem: its phrase, or a definition's."""
     found = _SUMMARY.search(printed)
     faults = _FAULT.findall(printed)
     if not found:
         raise NoHolLight("HOL Light came to no end: %s" % (faults or printed.splitlines()[-1:] or ["it printed nothing"])[0])
-    theirs, ours, given, refused = map(int, found.groups())
+    theirs, ours, given, refused, number = map(int, found.groups())
+    if theirs + ours + given + refused != number:
+        raise NoHolLight("HOL Light came to %d of %d theorems: %s" % (theirs + ours + given + refused, number, (faults or ["no fault was told"])[0]))
     return Outcome(theirs, ours, given, refused, tuple(_TOLD.findall(printed)))

@@ -3,12 +3,13 @@
 from __future__ import annotations
 
 import re
-from typing import Callable, Dict, List, NamedTuple, Sequence
+from typing import Callable, Dict, FrozenSet, List, NamedTuple, Optional, Sequence
 
 from holls import notation
 
 _TOKEN = re.compile(r"`[^`]*`|[A-Za-z_][A-Za-z0-9_']*|[0-9]+|[()\[\];,]")
 _SYMBOL = re.compile(r"[A-Za-z_][A-Za-z0-9_']*|<=>|==>|\\/|/\\|->|\?!|\S")
+_NAME = re.compile(r"[A-Za-z_][A-Za-z0-9_']*\Z")
 _ONE = frozenset(("REPEAT", "TRY", "CHANGED_TAC"))
 _MANY = frozenset(("EVERY", "FIRST"))
 _BY_THEOREM = frozenset(("DISCH_THEN", "POP_ASSUM", "FIRST_ASSUM"))
@@ -191,11 +192,28 @@ class Expression:
 
 def spaced(text: str, types: Sequence[str] = ()) -> str:
     """A quotation with a space between two symbols, which HOL Light joins, and with brackets in what is of a type of a type."""
-    text = " ".join(_SYMBOL.findall(text))
-    if types:
-        nested = re.compile(r"\b([A-Za-z_][A-Za-z0-9_']*) (%s) (%s)\b" % (("|".join(map(re.escape, types)),) * 2))
-        text = nested.sub(r"((\1)\2)\3", text)
-    return text
+    return " ".join(_bracketed(_SYMBOL.findall(text), frozenset(types)))
+
+
+def _bracketed(tokens: Sequence[str], constructors: FrozenSet[str]) -> List[str]:
+    """Tokens with brackets around a type that another constructor follows: HOL Light reads one constructor behind what it applies."""
+    made: List[str] = []
+    opened: List[int] = []
+    first: Optional[int] = None
+    closed: Optional[int] = None
+    for token in tokens:
+        if token in constructors and first is not None:
+            made.insert(first, "(")
+            made.append(")")
+        elif token in constructors and made and (closed is not None or _NAME.match(made[-1])):
+            first = closed if closed is not None else len(made) - 1
+        else:
+            first = None
+        if token == "(":
+            opened.append(len(made))
+        closed = opened.pop() if token == ")" and opened else None
+        made.append(token)
+    return made
 
 
 class Writer:
@@ -210,7 +228,7 @@ class Writer:
 
     def text(self) -> str:
         """What was written, with the line that tells the numbers."""
-        return "\n".join(self.lines + ["summary ();;"]) + "\n"
+        return "\n".join(self.lines + ["summary %d;;" % self.count]) + "\n"
 
     def add(self, commands: Sequence[str]) -> None:
         """Takes a file's commands. Raises Unwritable, with the command."""
@@ -248,7 +266,7 @@ class Writer:
         if self.is_run(self.count):
             made = "proved %s %s [%s]" % (string(proof.name), string(proof.statement), ";\n  ".join(proof.steps))
         else:
-            made = "given %s" % string(proof.statement)
+            made = "given %s %s" % (string(proof.name), string(proof.statement))
         self.count += 1
         self.lines.append("let %s = %s;;" % (theorem(proof.name), made))
 
@@ -282,7 +300,7 @@ class Writer:
             theorem(first), theorem(second), string(name), string(abstraction), string(representation), theorem(member)))
 
     def _add_type(self, name: str, number: int) -> None:
-        if number == 1 and name not in self.types:
+        if number and name not in self.types:
             self.types.append(name)
 
     def _expression(self, text: str) -> str:

@@ -195,15 +195,21 @@ let run_steps is_ours tm steps =
      | Not_found | Unchanged | Match_failure _ -> failure := "goals remain"; None) in
   ignore (Unix.alarm 0);
   result;;
+let stated name statement =
+  try Some (quoted statement) with problem ->
+    let why = (match problem with Failure why -> why | _ -> Printexc.to_string problem) in
+    incr refused_count; Printf.printf "@refused %s: its statement can't be read: %s\n%!" name why; None;;
 let proved name statement steps =
-  let tm = quoted statement in
-  match run_steps false tm steps with
-    Some th -> incr by_theirs_count; th
-  | None ->
-    let theirs = !failure in
-    match run_steps true tm steps with
-      Some th -> incr by_ours_count; Printf.printf "@ours %s: %s\n%!" name theirs; th
-    | None -> incr refused_count; Printf.printf "@refused %s: %s; ours: %s\n%!" name theirs !failure; mk_thm([],tm);;
-let given statement = incr given_count; mk_thm([],quoted statement);;
-let summary () =
-  Printf.printf "@summary %d %d %d %d\n%!" !by_theirs_count !by_ours_count !given_count !refused_count;;
+  match stated name statement with
+    None -> TRUTH
+  | Some tm ->
+    match run_steps false tm steps with
+      Some th -> incr by_theirs_count; th
+    | None ->
+      let theirs = !failure in
+      match run_steps true tm steps with
+        Some th -> incr by_ours_count; Printf.printf "@ours %s: %s\n%!" name theirs; th
+      | None -> incr refused_count; Printf.printf "@refused %s: %s; ours: %s\n%!" name theirs !failure; mk_thm([],tm);;
+let given name statement = match stated name statement with None -> TRUTH | Some tm -> incr given_count; mk_thm([],tm);;
+let summary number =
+  Printf.printf "@summary %d %d %d %d of %d\n%!" !by_theirs_count !by_ours_count !given_count !refused_count number;;
