@@ -18,6 +18,7 @@ import time
 import unittest
 import urllib.parse
 import zlib
+from unittest import mock
 
 from holls.course import layout
 from holls.serving import command, usage
@@ -52,6 +53,14 @@ class Parts(unittest.TestCase):
         self.assertEqual(bucket.owes(3), 1.5)
         now[0] = 100.0
         self.assertEqual((bucket.owes(4), bucket.owes(2)), (0.0, 1.0))
+
+    def test_a_python_without_aiohttp_is_told_what_brings_it(self):
+        """By names that are ours or Debian's: no registry has a package hol-serve that we know of."""
+        said = []
+        with mock.patch.object(command, "web", None), mock.patch.object(command, "complain", said.append):
+            self.assertEqual(command.main(None), 2)
+        self.assertIn("`%s -m pip install aiohttp`" % sys.executable, said[0])
+        self.assertNotIn("hol-serve[", said[0])
 
     def test_addresses_have_their_own_and_the_oldest_is_forgotten(self):
         rates = ByAddress(0.001, 1)

@@ -12,6 +12,7 @@ import io
 import os
 import secrets
 import socket
+import sys
 import zlib
 from pathlib import Path
 from typing import List, Optional
@@ -75,8 +76,8 @@ def add_words(words: argparse.ArgumentParser) -> None:
 def main(given: argparse.Namespace) -> int:
     """Serves until it is ended. Status 2 where there is nothing to serve."""
     if web is None:
-        return _complain("holls serve needs aiohttp: apt-get install python3-aiohttp, or pip install 'hol-serve[serve]' "
-                         "(`holls page` serves the page to this machine without it)")
+        return _complain("holls serve needs aiohttp, which %s doesn't have: `%s -m pip install aiohttp`, or `apt-get install python3-aiohttp` for Debian's own "
+                         "/usr/bin/python3 (`holls page` serves the page to this machine without it)" % (sys.executable, sys.executable))
     if not hasattr(os, "fork"):
         return _complain("holls serve needs a system that can fork, as Linux does")
     wrong = next((name for name in _NUMBERS if getattr(given, name) < 1), None)
