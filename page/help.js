@@ -1,4 +1,4 @@
-// The help panel: commands, functions, keys.
+// The help panel: commands, tactics, keys.
 import { element } from './element.js';
 
 const KEYS = [
@@ -12,7 +12,7 @@ const KEYS = [
   ['Ctrl+S', 'saves the theory as a file'],
   ['\\forall, \\exists, \\and, \\or, \\not, \\implies, \\iff, \\lambda, \\to', 'become ∀ ∃ ∧ ∨ ¬ ⇒ ⇔ λ → as you type on'],
 ];
-const TITLES = { commands: 'Commands', declarations: 'Declarations of notation', functions: 'Functions on goals', tacticals: 'Putting functions together', rules: 'Theorems in place' };
+const TITLES = { commands: 'Commands', declarations: 'Declarations of notation', functions: 'Tactics', tacticals: 'Tacticals, which join tactics', rules: 'Theorems in place' };
 
 const list = (rows) => element('dl', {}, ...rows.flatMap(([name, does]) => [element('dt', {}, element('code', {}, name)), element('dd', {}, does)]));
 

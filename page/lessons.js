@@ -9,7 +9,7 @@ const FIRST = [
     say: [
       'A theory is a list of <b>commands</b>. Each ends with <code>;;</code>. The command <code>g NAME `term`</code> opens a proof: its '
       + 'term is the <b>goal</b>. Put the cursor anywhere in a command, and the goals after it are shown beside the text.',
-      'A step <code>e FUNCTION</code> runs a function on the first goal. <code>REFL_TAC</code> closes a goal whose two sides are the '
+      'A step <code>e TACTIC</code> runs a <b>tactic</b> on the first goal. <code>REFL_TAC</code> closes a goal whose two sides are the '
       + 'same. When no goal is left, <code>qed</code> ends the proof and makes the theorem.',
       'Prove <code>x = x</code>: write the step and <code>qed</code> under the goal.',
     ],
@@ -43,7 +43,7 @@ const FIRST = [
     say: [
       '<code>p ==> q</code> is “if p then q”. To prove it, assume p and prove q: that is <code>DISCH_TAC</code>. Above the line stand '
       + 'the <b>assumptions</b> of a goal.',
-      '<code>FIRST_ASSUM f</code> tries the function f with each assumption. <code>ACCEPT_TAC</code> closes a goal that is just what a '
+      '<code>FIRST_ASSUM f</code> tries the tactic f with each assumption. <code>ACCEPT_TAC</code> closes a goal that is just what a '
       + 'theorem says; so <code>FIRST_ASSUM ACCEPT_TAC</code> closes a goal that is assumed.',
     ],
     given: ['g ID `!p. p ==> p`;;\n'],
@@ -118,7 +118,7 @@ const FIRST = [
       'An equation lets you put its right side for its left one. <code>ASM_REWRITE_TAC []</code> does it with the assumptions, wherever '
       + 'the goal has a left side, and closes the goal if it becomes <code>s = s</code>. Between the brackets theorems may stand, by '
       + 'which it rewrites too: <code>[TH1; TH2]</code>.',
-      'Of a goal <code>f x = f y</code> the function <code>AP_TERM_TAC</code> leaves <code>x = y</code>.',
+      'Of a goal <code>f x = f y</code> the tactic <code>AP_TERM_TAC</code> leaves <code>x = y</code>.',
       'Prove both theorems.',
     ],
     given: ['g SWAP_EQ `!(x:A) y. x = y ==> y = x`;;\n', 'g SAME_VALUE `!(f:A->B) x y. x = y ==> f y = f x`;;\n'],

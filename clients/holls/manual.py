@@ -80,10 +80,10 @@ CHANGED_TAC tac | Runs the expression, and is refused where just the goal is lef
 EVERY [tac; ..] | Runs the expressions one after the other, each on all goals that are left.
 FIRST [tac; ..] | Runs the first expression that isn't refused.
 REPLICATE_TAC n tac | Runs the expression n times, each time on all goals that are left.
-DISCH_THEN tac | Of `p ==> q`, or `~p`, hands `p` as a theorem to the function, on `q` or `F`.
-POP_ASSUM tac | Takes the newest assumption out and hands it to the function as a theorem.
-FIRST_ASSUM tac | Hands the first assumption to the function with which it isn't refused, the newest first; the goal keeps all.
-SUBGOAL_THEN `p` tac | Leaves `p` first, and then what the function leaves of the goal with `p` as a theorem.
+DISCH_THEN tac | Of `p ==> q`, or `~p`, hands `p` as a theorem to the tactic, on `q` or `F`.
+POP_ASSUM tac | Takes the newest assumption out and hands it to the tactic as a theorem.
+FIRST_ASSUM tac | Hands the first assumption to the tactic with which it isn't refused, the newest first; the goal keeps all.
+SUBGOAL_THEN `p` tac | Leaves `p` first, and then what the tactic leaves of the goal with `p` as a theorem.
 """)
 """The tacticals."""
 
@@ -193,6 +193,6 @@ TYPES = {"bool": "the truth values, T and F", "ind": "an infinite type (INFINITY
 
 
 def entry(name: str) -> Optional[Entry]:
-    """What there is to say of a function, a tactical, a rule, a command, a declaration or a package."""
+    """What there is to say of a tactic, a tactical, a rule, a command, a declaration or a package."""
     every = (FUNCTIONS, STEPS, TACTICALS, RULES, PACKAGE_RULES, COMMANDS, DECLARATIONS, PACKAGES)
     return next((entries[name] for entries in every if name in entries), None)

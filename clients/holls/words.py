@@ -34,7 +34,7 @@ _OF_COMMANDS = {
         protocol.BAD_RULE: "%s takes a theorem `P x` as its last name, and this one is no application",
     },
     "e": {
-        protocol.TOO_LARGE: "too large: a term here or a term that a function makes has over 20,000 nodes, those of its types counted: rewriting that "
+        protocol.TOO_LARGE: "too large: a term here or a term that a tactic makes has over 20,000 nodes, those of its types counted: rewriting that "
                             "doesn't end? ONCE_REWRITE_TAC, or SUBST1_TAC at an instance",
     },
     "deftac": {
@@ -162,7 +162,7 @@ def _unknown_tac(text: str, name: str, start: int) -> str:
         if handing and notation.TACS[name].endswith("a theorem"):
             return "%s hands its theorem to %s, whose last argument is left out: write %s %s" % (handing, name, handing, name)
         if handing:
-            return ("%s hands a theorem to the function behind it, and %s takes %s; write %s MP_TAC or the like, a function whose last "
+            return ("%s hands a theorem to the tactic behind it, and %s takes %s; write %s MP_TAC or the like, a tactic whose last "
                     "argument is a theorem%s" % (handing, name, takes, handing, _by_assumptions(name)))
         return "%s takes %s" % (name, takes)
     if name in notation.FORWARD:
@@ -201,7 +201,7 @@ _FITS = {
     "DISJ_CASES_TAC": "a theorem p \\/ q", "SUBST1_TAC": "a theorem s = t", "UNDISCH_TAC": "one of the goal's assumptions",
     "MATCH_MP_TAC": "a theorem !xs. s ==> t whose t matches the goal",
     "SPEC_TAC": "a variable of the term's type that isn't free in the goal, unless it is the term",
-    "DISCH_THEN": "p ==> q or ~p", "POP_ASSUM": "a goal with an assumption", "FIRST_ASSUM": "an assumption that its function takes",
+    "DISCH_THEN": "p ==> q or ~p", "POP_ASSUM": "a goal with an assumption", "FIRST_ASSUM": "an assumption that its tactic takes",
 }
 """What tactics and tacticals want, where they refuse some goals."""
 

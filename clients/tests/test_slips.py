@@ -11,7 +11,7 @@ SLIPS = (
     ("new_definition Q `len (x:A) = len x`;;", "1:1: error: len stands on its own right side: new_definition can't be recursive"),
     ("new_definition Q `len (x:A) = f x`;;", "1:1: error: f is free in what is defined: make it an argument of the constant"),
     ("new_constant f `:A->A`;; new_axiom GROW `!x:A. x = f x`;;\ng A `(y:A) = z`;;\ne REWRITE_TAC [GROW];;\noops;;",
-     "3:1: error: too large: a term here or a term that a function makes has over 20,000 nodes"),
+     "3:1: error: too large: a term here or a term that a tactic makes has over 20,000 nodes"),
     ("new_axiom COMM `!x y. x /\\ y <=> y /\\ x`;;\ng A `a /\\ b`;;\ne REWRITE_TAC [COMM];;\noops;;",
      "3:1: error: the turn limit was reached: a tactic doesn't end (rewriting? ONCE_REWRITE_TAC,"),
     ("g A `T`;;\n// comment\ne ACCEPT_TAC TRUTH;;\nqed;;", "2:1: error: `//` begins no command; comments are (* .. *)"),

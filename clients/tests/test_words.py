@@ -151,7 +151,7 @@ class OfSlips(unittest.TestCase):
         for number in (13, 18):
             self.assertIn("rewriting", said("e REWRITE_TAC [GROW]", number, ""))
             self.assertIn("ONCE_REWRITE_TAC, or SUBST1_TAC at an instance", said("e REWRITE_TAC [GROW]", number, ""))
-        self.assertIn("a term that a function makes has over 20,000 nodes", said("e REWRITE_TAC [GROW]", 13, ""))
+        self.assertIn("a term that a tactic makes has over 20,000 nodes", said("e REWRITE_TAC [GROW]", 13, ""))
         self.assertIn("split the statement", said("g A `p`", 13, ""))
         self.assertIn("split it into several e", said("e REPEAT ALL_TAC", 18, ""))
         self.assertNotIn("--turns", said("e REPEAT ALL_TAC", 18, ""))
@@ -185,7 +185,7 @@ class OfSlips(unittest.TestCase):
 
     def test_what_a_tactical_hands_over(self):
         words = said("e POP_ASSUM (REWRITE_TAC)", 6, "REWRITE_TAC")
-        self.assertIn("POP_ASSUM hands a theorem to the function behind it, and REWRITE_TAC takes a list of theorems", words)
+        self.assertIn("POP_ASSUM hands a theorem to the tactic behind it, and REWRITE_TAC takes a list of theorems", words)
         self.assertIn("ASM_REWRITE_TAC []", words)
         self.assertIn("write POP_ASSUM ACCEPT_TAC", said("e POP_ASSUM (ACCEPT_TAC TRUTH)", 6, "ACCEPT_TAC"))
         self.assertEqual(said("e MP_TAC", 6, "MP_TAC"), "MP_TAC takes a theorem")
