@@ -103,7 +103,7 @@ def _declaring(written: str, file: File, every: Sequence[File]) -> Iterator[Fix]
     by_name = {other.name: other for other in every}
     for name in declaring.theories(file.neighbours(), written):
         if name in by_name and not graph.is_importing(by_name[name], file, by_name):
-            place = _import_place(file)
+            place = import_place(file)
             yield Fix("Import %s, which declares %s" % (name, written), place, place, "import %s;;\n" % name)
 
 
@@ -113,7 +113,7 @@ def _base(file: File, every: Sequence[File]) -> Iterator[Fix]:
     base = by_name.get(THEORY)
     is_there = base is not None and (graph.is_importing(file, base, by_name) or graph.is_importing(base, file, by_name))
     if not is_there and (base is not None or any(theory_name(path) == THEORY for path in file.neighbours())):
-        place = _import_place(file)
+        place = import_place(file)
         yield Fix("Import %s" % THEORY, place, place, "import %s;;\n" % THEORY)
 
 
@@ -169,7 +169,7 @@ def _imports(name: str, kind: str, file: File, every: Sequence[File]) -> Iterato
 
 def _import(theory: str, name: str, file: File) -> Fix:
     """The import of a theory that makes a name."""
-    place = _import_place(file)
+    place = import_place(file)
     return Fix("Import %s, which makes %s" % (theory, name), place, place, "import %s;;\n" % theory)
 
 
@@ -181,7 +181,7 @@ def _theorem(finding: Finding, name: str, file: File, files: Sequence[File], eve
         yield Fix("Replace by %s" % near, finding.start, finding.end, near)
 
 
-def _import_place(file: File) -> int:
+def import_place(file: File) -> int:
     """Where an import is put: in the line behind the last one at the file's beginning, else before the first command."""
     last: Optional[int] = None
     for command in file.commands:

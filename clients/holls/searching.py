@@ -6,7 +6,7 @@ import argparse
 import json
 import os
 import queue
-from typing import Dict, Iterator, List, Optional, Sequence
+from typing import Dict, Iterator, List, Optional, Sequence, Tuple
 
 from holls import check, checking, names, protocol, search, server
 from holls.checking import SERVED, Unit
@@ -20,14 +20,16 @@ from holls.view import View
 
 NONE, BROKEN = 1, 2
 ELSEWHERE = ": none of the files that are searched declares or imports it; --in FILE searches others"
+MOST_OF_LIBRARY = 50
+"""So many theorems of the library are written, where it isn't named by --in."""
 
 
 def add_words(parser: argparse.ArgumentParser) -> None:
     """The words of the command line."""
     parser.add_argument("query", nargs="+", metavar="QUERY", help="parts of names; or a pattern of the statement, as '_ /\\ _ ==> _', "
                         "beside names between backquotes")
-    parser.add_argument("--in", dest="files", action="append", metavar="FILE", help="a file or folder to search (the folder one works in; "
-                        "where it has no files, the library); may be given again")
+    parser.add_argument("--in", dest="files", action="append", metavar="FILE", help="a file or folder to search (the folder one works in, and "
+                        "behind it the library); may be given again")
     parser.add_argument("--conclusion", action="store_true", help="the pattern is of the whole statement or of what it concludes, of no part")
     parser.add_argument("--written", action="store_true", help="take the statements as they are written, proved or not, without the program")
     parser.add_argument("--server", metavar="PROGRAM", help="the program hol_serve")
@@ -38,19 +40,47 @@ def add_words(parser: argparse.ArgumentParser) -> None:
 def main(given: argparse.Namespace) -> int:
     """Writes the theorems found, the best first: status 0 where there are some, 1 where none, 2 where nothing can be searched."""
     try:
-        paths = _files(given.files)
-        units = _once(checking.units(check.ordered(paths or [LIBRARY])))
-        view = View.of_all(unit.file for unit in units)
-        asked = search.query(" ".join(given.query), given.conclusion, view)
-        as_written = given.written or not paths  # The library stands as it is written, and to run it takes a while.
-        known = PRELUDE + list(_written(units) if as_written else _standing(units, server.find(given.server), given.seconds))
+        units = _once(checking.units(check.ordered(_files(given.files))))
+        library = [] if given.files else _library(units)
+        others = _readable(given, library, list(_written(library))) if library else None
+        is_read = _readable(given, units, []) is not None
+        found = _found(given, units, _known(given, units) if is_read else []) if is_read or others is None else []
     except (search.BadQuery, check.CannotCheck, server.NoServer) as error:
         complain("%s%s" % (error, ELSEWHERE if str(error).endswith("begins no symbol") else ""))
         return BROKEN
-    found = search.Index().find(asked, known)
-    for one in found:
+    others = others or []
+    for one, view in (*found, *others[:MOST_OF_LIBRARY]):
         _show(one, given.json, view)
-    return 0 if found else NONE
+    if others[MOST_OF_LIBRARY:] and not given.json:
+        say(".. and %d more in the library: --in %s" % (len(others) - MOST_OF_LIBRARY, LIBRARY))
+    return 0 if found or others else NONE
+
+
+def _known(given: argparse.Namespace, units: Sequence[Unit]) -> List[Known]:
+    """What is searched of the prelude and of files."""
+    as_written = given.written or not units
+    return PRELUDE + list(_written(units) if as_written else _standing(units, server.find(given.server), given.seconds))
+
+
+def _found(given: argparse.Namespace, units: Sequence[Unit], known: Sequence[Known]) -> List[Tuple[Known, View]]:
+    """What the query finds, read in the notation of files, the best first. Raises BadQuery."""
+    view = View.of_all(unit.file for unit in units)
+    return [(one, view) for one in search.Index().find(search.query(" ".join(given.query), given.conclusion, view), known)]
+
+
+def _readable(given: argparse.Namespace, units: Sequence[Unit], known: Sequence[Known]) -> Optional[List[Tuple[Known, View]]]:
+    """The same; None where the query can't be read in the notation there."""
+    try:
+        return _found(given, units, known)
+    except search.BadQuery:
+        return None
+
+
+def _library(units: Sequence[Unit]) -> List[Unit]:
+    """The library's files that aren't among these. They are searched as they are written: their theorems all stand."""
+    own = {os.path.realpath(unit.file.path) for unit in units}
+    every = checking.units(check.ordered([LIBRARY])) if os.path.isdir(LIBRARY) else []
+    return [unit for unit in every if os.path.realpath(unit.file.path) not in own]
 
 
 def _files(named: Optional[List[str]]) -> List[str]:

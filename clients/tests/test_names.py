@@ -186,13 +186,41 @@ class InAProject(unittest.TestCase):
 
     def test_searching_finds_what_stands_in_all_files_and_its_statements_are_read_ahead(self):
         self.assertEqual(len(list(self.navigation.reading({self.document.project.key: self.files}))), 7)  # Of A two, of B three, of C and OTHER one each.
-        found = self.navigation.search("x = x /\\ _", False, {self.document.project.key: self.files})
+        found = self.searched("x = x /\\ _")
         self.assertEqual([(one["name"], one["theory"], one["isMade"]) for one in found], [("ONCE", "A", True)])
         self.assertEqual(found[0]["location"]["range"]["start"], {"line": 1, "character": 2})
-        found = self.navigation.search("d x = c x", False, {self.document.project.key: self.files})
+        found = self.searched("d x = c x")
         self.assertEqual([(one["name"], one["isMade"]) for one in found], [("D_DEF", False)])
-        found = self.navigation.search("else", False, {self.document.project.key: self.files})
+        found = self.searched("else")
         self.assertEqual([(one["name"], one["isMade"]) for one in found], [("ELSE", False)])
+
+    def searched(self, query):
+        """What a query finds in the project's files."""
+        found = self.navigation.search(query, False, {self.document.project.key: self.files})
+        return [one for one in found if not one["theory"].endswith(", not imported")]
+
+    def test_theories_of_the_library_are_searched_though_nothing_imports_them(self):
+        found = self.navigation.search("add_sym", False, {self.document.project.key: self.files})
+        self.assertEqual([(one["name"], one["statement"], one["theory"], one["isMade"]) for one in found][0],
+                         ("ADD_SYM", "!m n. m + n = n + m", "arithmetic, not imported", True))
+        self.assertTrue(found[0]["location"]["uri"].endswith("/theories/arithmetic.hol"))
+        found = self.navigation.search("m + n = n + m", False, {self.document.project.key: self.files})
+        self.assertIn("ADD_SYM", [one["name"] for one in found])
+
+    def test_theorems_of_theories_that_are_not_imported_are_offered_with_the_import(self):
+        text = C.replace("ACCEPT_TAC ONCE", "ACCEPT_TAC ADD_SY")
+        document = self.workspace.open((self.folder / "C.hol").as_uri(), 2, text)
+        files = self.workspace.groups()[str(self.folder)]
+        found = completion.at(files, [], document.file, text.index("ADD_SY") + len("ADD_SY"))
+        offered = {one["label"]: one for one in found if "additionalTextEdits" in one}
+        self.assertEqual(offered["ADD_SYM"]["detail"], "of arithmetic, which isn't imported")
+        self.assertEqual(offered["ADD_SYM"]["additionalTextEdits"], [
+            {"range": {"start": {"line": 1, "character": 0}, "end": {"line": 1, "character": 0}}, "newText": "import arithmetic;;\n"}])
+        self.assertTrue(all(label.startswith("ADD_SY") for label in offered))
+        at_once = text.replace("ADD_SY", "ELS")
+        document = self.workspace.open((self.folder / "C.hol").as_uri(), 3, at_once)
+        found = completion.at(self.workspace.groups()[str(self.folder)], [], document.file, at_once.index("ELS") + 3)
+        self.assertNotIn("ELSE", [one["label"] for one in found])  # Its theory imports this one.
 
 
 class TypesOfVariables(unittest.TestCase):

@@ -401,7 +401,7 @@ class OverTheProgram(unittest.TestCase):
         hover = editor.hover(uri, line - 1, lines[line - 1].index("+"), "add")
         self.assertIn("add : num->num->num", hover["contents"]["value"])
         found = editor.ask("hol/search", {"query": "_ + _ = _"})
-        self.assertEqual([(one["name"], one["statement"], one["plain"]) for one in found],
+        self.assertEqual([(one["name"], one["statement"], one["plain"]) for one in found if not one["theory"].endswith(", not imported")],
                          [("ADD_SYM", "!m n. m + n = n + m", "!m n. add m n = add n m")])
         self.assertEqual(editor.end(), 0)
 

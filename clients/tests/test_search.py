@@ -100,7 +100,7 @@ class AsAProgram(unittest.TestCase):
             (folder / "B.hol").write_text("import A;;\ng TWO_THM `y = y`;; e REFL_TAC;; qed;;\n")
             program = fake(folder)
             ask = [*PYTHON, str(HOLLS), "search"]
-            done = subprocess.run(ask + ["--server", program, "thm"], cwd=folder, capture_output=True, timeout=SECONDS)
+            done = subprocess.run(ask + ["--server", program, "--in", ".", "thm"], cwd=folder, capture_output=True, timeout=SECONDS)
             self.assertEqual((done.returncode, done.stdout.decode().splitlines()), (
                 0, ["./A.hol:1: ONE_THM |- x = x", "./B.hol:2: TWO_THM |- y = y"]))
             done = subprocess.run(ask + ["--written", "--in", "A.hol", "thm"], cwd=folder, capture_output=True, timeout=SECONDS)
@@ -114,7 +114,7 @@ class AsAProgram(unittest.TestCase):
             done = subprocess.run(ask, cwd=name, capture_output=True, timeout=SECONDS)
             self.assertIn("LE_ADD |- !m n. m <= m + n", done.stdout.decode(), done.stderr)
             (pathlib.Path(name) / "A.hol").write_text("g ONE_THM `x = x`;;\ne REFL_TAC;; qed;;\n")
-            done = subprocess.run([*ask, "--written"], cwd=name, capture_output=True, timeout=SECONDS)
+            done = subprocess.run([*ask, "--written", "--in", "A.hol"], cwd=name, capture_output=True, timeout=SECONDS)
             self.assertEqual((done.returncode, done.stderr.decode().splitlines()), (2, [
                 "holls: the pattern can't be read: `<` begins no symbol: none of the files that are searched declares or imports it; "
                 "--in FILE searches others"]))
@@ -127,8 +127,24 @@ class AsAProgram(unittest.TestCase):
             (folder / "lib" / "A.hol").write_text("g ONE_THM `x = x`;;\ne REFL_TAC;; qed;;\n")
             (folder / "mine" / "B.hol").write_text("import A;;\n")
             (folder / "mine" / "hol-project.json").write_text('{"folders": [".", "../lib"]}')
-            done = subprocess.run([*PYTHON, str(HOLLS), "search", "--written", "one"], cwd=folder, capture_output=True, timeout=SECONDS)
-            self.assertEqual(done.stdout.decode().count("ONE_THM |-"), 1, done.stdout)
+            done = subprocess.run([*PYTHON, str(HOLLS), "search", "--written", "one_thm"], cwd=folder, capture_output=True, timeout=SECONDS)
+            self.assertEqual(done.stdout.decode().count(": ONE_THM |-"), 1, done.stdout)
+
+    def test_the_library_is_searched_behind_the_folder(self):
+        with tempfile.TemporaryDirectory() as name:
+            folder = pathlib.Path(name)
+            (folder / "A.hol").write_text("import logic;;\ng ADD_SYM_OF_MINE `x = x`;;\ne REFL_TAC;; qed;;\n")
+            ask = [*PYTHON, str(HOLLS), "search", "--written"]
+            done = subprocess.run(ask + ["add_sym"], cwd=folder, capture_output=True, timeout=SECONDS)
+            lines = done.stdout.decode().splitlines()
+            self.assertEqual((done.returncode, lines[0]), (0, "./A.hol:2: ADD_SYM_OF_MINE |- x = x"))
+            self.assertRegex(lines[1], r"/theories/arithmetic\.hol:[0-9]+: ADD_SYM \|- !m n\. m \+ n = n \+ m$")
+            done = subprocess.run(ask + ["m + n = _"], cwd=folder, capture_output=True, timeout=SECONDS)
+            self.assertIn("ADD_SYM |-", done.stdout.decode())
+            done = subprocess.run(ask + ["e"], cwd=folder, capture_output=True, timeout=SECONDS)
+            self.assertRegex(done.stdout.decode().splitlines()[-1], r"^\.\. and [0-9]+ more in the library: --in /")
+            done = subprocess.run(ask + ["--in", "A.hol", "add_sym"], cwd=folder, capture_output=True, timeout=SECONDS)
+            self.assertNotIn("arithmetic.hol", done.stdout.decode())
 
 
 if __name__ == "__main__":

@@ -50,7 +50,7 @@ class InVSCode(unittest.TestCase):
         self.assertEqual(found["actions"], [
             ["End the proof by qed", "\nqed;;"], ["Give the proof up by oops", "\noops;;"], ["Find a proof", "a search"], ["Simplify the goal", "a search"]])
         self.assertEqual((found["symbolOf"], found["references"], found["links"]), (["A"], 1, 0))
-        self.assertEqual((found["signature"], found["searched"]), ("MATCH_MP_TAC th", [["INFINITY_AX"], ["SELECT_AX"]]))
+        self.assertEqual((found["signature"], [one[0] for one in found["searched"]]), ("MATCH_MP_TAC th", ["INFINITY_AX", "SELECT_AX"]))
         self.assertEqual((found["typed"], found["unknown"]), (["INFINITY_AX", "SELECT_AX", [13, 20, "∀"]], 0))
         self.assertIn("The bridge holls doesn't run", found["shown"][0])
         self.assertEqual(found["opened"], ["file:///A.hol"])

@@ -4,8 +4,9 @@ from __future__ import annotations
 
 from typing import Any, Dict, Iterable, List, Sequence
 
-from holls import manual, names, notation
+from holls import declaring, fixes, manual, names, notation
 from holls.files import File
+from holls.lsp import features
 from holls.lsp.lookup import command_at, is_quoted
 from holls.names import CONSTANT, IN_TERMS, TACTIC, THEOREM, Known
 from holls.text import SYMBOLS
@@ -14,6 +15,8 @@ from holls.view import View
 VARIABLE, KEYWORD, REFERENCE, METHOD, FUNCTION, CONSTANT_KIND, CLASS, MODULE, TEXT, OPERATOR = 6, 14, 18, 2, 3, 21, 7, 9, 1, 24
 DETAIL = 160
 """So many characters of a statement are shown beside its name."""
+MOST_ELSEWHERE = 200
+"""So many names of theories that aren't imported are offered."""
 
 SYMBOL_NAMES = {
     "forall": "∀", "exists": "∃", "unique": "∃!", "lambda": "λ", "select": "ε", "and": "∧", "or": "∨", "not": "¬", "implies": "⇒",
@@ -41,7 +44,7 @@ def at(files: Sequence[File], theories: Iterable[str], file: File, place: int, f
         variables = [_item(name.split(":")[0], VARIABLE, name.split(":", 1)[-1], "0") for name in free]
         words = [_known(one, "0" if one.file else "1", view) for one in visible if one.kind in IN_TERMS and one.name[0].isalpha()]
         return variables + words + _operators(visible, view)
-    theorems = [_known(one, "1" if one.file else "2", view) for one in visible if one.kind == THEOREM]
+    theorems = [_known(one, "1" if one.file else "2", view) for one in visible if one.kind == THEOREM] + _elsewhere(file, start, place)
     written = command.as_written
     offset = written.offset(start)
     if command.word not in notation.STEPS or notation.is_made_name(written.text, offset):
@@ -64,6 +67,19 @@ def likeliest(found: List[Dict[str, Any]], file: File, place: int, most: int) ->
     begins = symbols + sorted((one for label, one in labels if label.startswith(word)), key=lambda one: one["sortText"])
     holds = [one for label, one in labels if len(word) > 1 and word in label and not label.startswith(word)]
     return {"isIncomplete": True, "items": (begins + holds)[:most]}
+
+
+def _elsewhere(file: File, start: int, place: int) -> List[Dict[str, Any]]:
+    """The theorems and tactics of theories that aren't imported and whose names begin like the word before a place: with each goes the import."""
+    text = file.lines.text
+    if place <= start:
+        return []
+    paths = file.neighbours()
+    known = declaring.importers(paths, file.name).union(one.name for one in file.with_imports())
+    others = [one for one in declaring.beginning(paths, text[start:place]) if one[1] not in known][:MOST_ELSEWHERE]
+    at_import = fixes.import_place(file)
+    return [dict(_item(name, REFERENCE, "of %s, which isn't imported" % theory, "4"),
+                 additionalTextEdits=[{"range": features.span(file, at_import, at_import), "newText": "import %s;;\n" % theory}]) for name, theory in others]
 
 
 def _once(visible: Sequence[Known]) -> List[Known]:

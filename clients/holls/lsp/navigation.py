@@ -3,7 +3,7 @@
 from __future__ import annotations
 
 from pathlib import Path
-from typing import Any, Dict, Iterator, List, Mapping, Optional, Sequence
+from typing import Any, Callable, Dict, Iterator, List, Mapping, Optional, Sequence
 
 from holls import names, search
 from holls.files import File
@@ -82,16 +82,31 @@ class Navigation:
             "location": self.location(one.file, *names.name_range(one))} for one in found[:MOST]]
 
     def search(self, query: str, of_conclusion: bool, servers: Sent) -> List[Dict[str, Any]]:
-        """The theorems that a query finds in all projects and in the prelude, the best first."""
+        """The theorems that a query finds in all projects and in the prelude, the best first; and behind them those of the library that nothing imports."""
         every = self._every(servers)
-        view = View.of_all(every)
+        library = self._of_library(every)
+        others = _readable(lambda: self._found(query, of_conclusion, library, [])) if library else None
+        if others is None:
+            return self._found(query, of_conclusion, every, names.PRELUDE)
+        found = _readable(lambda: self._found(query, of_conclusion, every, names.PRELUDE)) or []
+        return found + [dict(one, theory=one["theory"] + ", not imported", isMade=True) for one in others[:MOST]]
+
+    def _found(self, query: str, of_conclusion: bool, files: Sequence[File], more: List[names.Known]) -> List[Dict[str, Any]]:
+        """The theorems that a query, read in the notation of files, finds in them and among some more, the best first."""
+        view = View.of_all(files)
         asked = search.query(query, of_conclusion, view)
-        known = names.PRELUDE + [one for file in every for one in names.known(file)]
         found = []
-        for one in self.index.find(asked, known):
+        for one in self.index.find(asked, more + [one for file in files for one in names.known(file)]):
             result = {"name": one.name, "statement": one.shown_in(view), "plain": one.shown, "theory": one.origin, "isMade": one.is_made}
             found.append(dict(result, location=self.location(one.file, *names.name_range(one))) if one.file else result)
         return found
+
+    def _of_library(self, known: Sequence[File]) -> List[File]:
+        """The files of theories that the projects can import and that aren't known."""
+        projects = {document.project.key: document.project for document in self.workspace.documents.values()}
+        paths = {file.path for file in known}
+        found = {file.path: file for project in projects.values() for file in self.workspace.of_library(project, known)}
+        return [file for path, file in found.items() if path not in paths]
 
     def reading(self, servers: Sent) -> Iterator[None]:
         """Reads the statements of all projects, one at a time, so that the next search finds them read."""
@@ -105,6 +120,14 @@ class Navigation:
         """The files of all projects."""
         projects = {document.project.key: document.project for document in self.workspace.documents.values()}
         return list({file.path: file for key, project in projects.items() for file in self.workspace.every_file(project, servers.get(key, ()))}.values())
+
+
+def _readable(find: Callable[[], List[Dict[str, Any]]]) -> Optional[List[Dict[str, Any]]]:
+    """What is found; None where the query can't be read in the notation there."""
+    try:
+        return find()
+    except search.BadQuery:
+        return None
 
 
 def _has_letters(name: str, wanted: str) -> bool:

@@ -150,6 +150,16 @@ class Workspace:
         graph.share_notation(self._with_imports(project, found))
         return found
 
+    def of_library(self, project: Project, known: Sequence[File]) -> List[File]:
+        """The files of theories that a project can import and that aren't known yet; where there is one project, `every_file` has them."""
+        if isinstance(self.projects, OneProject):
+            return []
+        paths = {os.path.abspath(file.path) for file in known}
+        found = [self._at(path) for path in project.with_library() if os.path.abspath(path) not in paths]
+        others = [file for file in found if file is not None]
+        graph.share_notation(self._with_imports(project, others))
+        return others
+
     def _with_imports(self, project: Project, found: Sequence[File]) -> List[File]:
         """Some files of a project with those that they import, by way of others too: what an open file imports isn't forgotten by looking at others."""
         by_name = {file.name: file for file in reversed(found)}
