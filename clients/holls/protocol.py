@@ -5,6 +5,7 @@ from __future__ import annotations
 import json
 import re
 from dataclasses import dataclass
+from json.encoder import encode_basestring
 from typing import Any, Dict, List, Tuple, Union
 
 LINE_BYTES = 65_536
@@ -29,7 +30,6 @@ RESERVED = frozenset(
     "SPEC SYM CONJUNCT1 CONJUNCT2 MP INST_TYPE".split())
 
 _WRITTEN = json.JSONEncoder(separators=(",", ":"), ensure_ascii=False).encode
-_QUOTED = json.JSONEncoder(ensure_ascii=False).encode
 _READ = json.JSONDecoder().raw_decode
 _DONE = b'{"ok":true}'
 """The commonest reply."""
@@ -128,7 +128,7 @@ def line(request: Dict[str, Any]) -> bytes:
 
 def edit(op: str, theory: str, at: int, text: str) -> bytes:
     """An edit of a theory as a line without its newline. A theory's name has no character that JSON escapes."""
-    return ('{"op":"%s","theory":"%s","at":%d,"text":%s}' % (op, theory, at, _QUOTED(text))).encode("utf-8", "replace")
+    return ('{"op":"%s","theory":"%s","at":%d,"text":%s}' % (op, theory, at, encode_basestring(text))).encode("utf-8", "replace")
 
 
 def short(theory: str) -> int:
@@ -161,7 +161,7 @@ def _reply(value: Dict[str, Any]) -> Reply:
     if "refusal" in value:
         return Refusal(int(value["refusal"]), str(value["arg"]), str(value["text"]))
     if "goals" in value:
-        return Goals(tuple(_goal(goal) for goal in value["goals"]))
+        return Goals(tuple([_goal(goal) for goal in value["goals"]]))
     if "made" in value:
         return Made(_texts(value["made"]))
     if "items" in value:

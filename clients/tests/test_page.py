@@ -285,6 +285,18 @@ class Editing(InBrowser):
     def layout_seconds(self):
         return next(metric["value"] for metric in self.page.call("Performance.getMetrics")["metrics"] if metric["name"] == "LayoutDuration")
 
+    def test_the_verdict_and_the_way_on_are_seen_in_each_lesson_however_long_it_is(self):
+        shown = self.open(width=1280, height=800)
+        for number in range(25):
+            shown.value("window.page.hour.begin(%d)" % number)
+            shown.until("window.page.hour.number === %d" % number)
+            for _ in range(2):
+                self.assertEqual(shown.value("""['verdict', 'next'].map((id) => {
+                    const { left, top, right, bottom } = document.getElementById(id).getBoundingClientRect();
+                    return [[left + 3, top + 3], [left + 3, bottom - 3], [Math.min(right, left + 60) - 3, bottom - 3]].every(
+                        ([x, y]) => document.elementFromPoint(x, y)?.id === id); })"""), [True, True], number)
+                shown.value("document.getElementById('hint')?.click()")
+
     def test_keyboard_reader_and_phone(self):
         shown = self.open(width=390, height=800)
         self.assertLessEqual(shown.value("document.scrollingElement.scrollWidth"), 390)
