@@ -7,8 +7,8 @@ const FIRST = 500;
 const MOST = 30000; // So many milliseconds are waited before the next try, the first time and at most.
 
 export class Bridge {
-  // `heard` has a function for each notification and request of the bridge, `options` goes with `initialize`; `begun` is called when a
-  // bridge is there, and `ended(words)` when it is gone, with null where it was let go.
+  // `heard` has a function for each notification and request of the bridge, `options` goes with `initialize`; `begun(exercises)` is called when a
+  // bridge is there, with the names of the files of its course, and `ended(words)` when it is gone, with null where it was let go.
   constructor({ heard, options, begun, ended }) {
     Object.assign(this, { heard, options, begun, ended, socket: null, isBegun: false, number: 0, waiting: new Map(), wait: FIRST, timer: null });
   }
@@ -31,7 +31,7 @@ export class Bridge {
     if (!done) return;
     this.notify('initialized', {});
     Object.assign(this, { isBegun: true, wait: FIRST });
-    this.begun();
+    this.begun(done.capabilities?.experimental?.exercises ?? []);
   }
 
   closed(code, reason) {

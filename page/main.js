@@ -44,7 +44,7 @@ class Page {
         'window/showMessage': ({ message }) => this.fail(message),
         'workspace/codeLens/refresh': () => this.known(),
       },
-      begun: () => this.begun(),
+      begun: (exercises) => this.begun(exercises),
       ended: (words) => this.ended(words),
     });
     this.goals = new Goals($('goals'));
@@ -137,10 +137,12 @@ class Page {
 
   // The bridge
 
-  async begun() {
+  // A bridge is there. It gets the theory that is shown, and those that are exercises, which the server follows.
+  async begun(exercises) {
     this.fail(null);
     for (const theory of this.theories) theory.forget();
     if (this.active) this.show();
+    for (const theory of this.theories) if (exercises.includes(theory.name)) this.open(theory);
     this.manual ??= await this.bridge.request('hol/manual', {});
     if (!this.manual) return;
     colour(this.manual);

@@ -47,7 +47,7 @@ class Editor:
 
     def __init__(self, socket, **options):
         self.socket, self.number, self.told, self.at = socket, 0, [], {}
-        self.ask("initialize", capabilities={}, initializationOptions=dict({"refused": True}, **options))
+        self.given = self.ask("initialize", capabilities={}, initializationOptions=dict({"refused": True}, **options))
         self.tell("initialized")
 
     def tell(self, method, **params):

@@ -272,6 +272,7 @@ class Serve(Served):
     def test_a_session_has_the_course_s_theories_and_no_other_s(self):
         self.serve("--origin", "https://hol.example.edu")
         one, other = Editor(self.socket()), Editor(self.socket(Host="hol.example.edu", Origin="https://hol.example.edu"))
+        self.assertEqual(one.given["capabilities"]["experimental"], {"exercises": ["equations", "implications", "quantifiers"]})
         one.open("mine", "import week;;\ng N `x = x`;;\ne REFL_TAC;;\nqed;;")
         self.assertEqual(one.said("mine"), [])
         other.open("yours", "import mine;;\nimport hol_course;;")

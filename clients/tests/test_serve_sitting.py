@@ -10,6 +10,8 @@ from tests.helpers import BUILT, HOLLS, SECONDS
 from tests.test_serve import COURSE, Served, free_port, python
 
 STUDENTS = ("ada", "ben", "cleo")
+BACK = "!window.page || window.page.isDone && !document.querySelector('#goals.unknown')"
+"""A page has a bridge, and what it shows is known. (The list of exercises has none.)"""
 
 
 @unittest.skipUnless(python() and browser.CHROMIUM and BUILT.exists(), "aiohttp, Chromium or hol_serve isn't here: no course is sat through")
@@ -31,6 +33,8 @@ class Sitting(Served):
                 self.write(page, name, file)
             if file == "implications":
                 self.start_anew(pages["ada"])
+                for page in pages.values():
+                    page.until(BACK)
         teacher = self.browser.apart("http://%s/teacher/secret" % self.host)
         self.until(lambda: {name: (row[4], row[6]) for name, row in self.rows(teacher).items()} == {
             "ada": ("", ""), "ben": ("implications: SWAP", "q"), "cleo": ("quantifiers: SOME", "")})
@@ -38,6 +42,8 @@ class Sitting(Served):
         self.assertEqual(rows["ada"][1:4], ["4 of 4", "3 of 3", "3 of 3"])
         self.assertEqual(rows["ben"][1:4], ["3 of 4", "2 of 3", "0 of 3"])
         self.assertEqual(rows["cleo"][1:4], ["0 of 4", "3 of 3", "2 of 3"])
+        self.anew()  # What the teacher sees then comes from the browsers alone: of the theory that is shown, and of those that aren't.
+        self.until(lambda: {name: row[1:4] for name, row in self.rows(teacher).items()} == {name: row[1:4] for name, row in rows.items()})
         for page in pages.values():
             self.assertEqual(page.complaints, [])
         for name in STUDENTS:
@@ -75,13 +81,16 @@ class Sitting(Served):
             page.type(path.read_text())
             page.until("window.page.isDone")
 
-    def start_anew(self, page):
-        """The server is started anew while a page is open, and that goes on by itself with what it had."""
-        text = page.value("document.getElementById('text').value")
+    def anew(self):
         self.process.terminate()
         self.process.wait(SECONDS)
         self.begin()
-        page.until("window.page.isDone && !document.querySelector('#goals.unknown')")
+
+    def start_anew(self, page):
+        """The server is started anew while a page is open, and that goes on by itself with what it had."""
+        text = page.value("document.getElementById('text').value")
+        self.anew()
+        page.until(BACK)
         page.value("document.getElementById('text').focus(), document.getElementById('text').setSelectionRange(0, 0)")
         page.type("(* back *) ")
         page.until("window.page.isDone")

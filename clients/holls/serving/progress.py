@@ -10,6 +10,7 @@ import time
 from typing import Any, Dict, List, Mapping, Optional, Tuple
 
 from holls.files import File
+from holls.lsp.answers import Answered
 from holls.lsp.bridge import Bridge
 from holls.lsp.workspace import Document
 from holls.notation import OUTSIDE
@@ -38,6 +39,12 @@ class Watched(Bridge):
     _told_at = 0.0
     _told_last: Optional[List[Dict[str, Any]]] = None
     _is_new = False
+
+    def _initialize(self, number: Any, params: Dict[str, Any]) -> Answered:
+        """Names the course's files to the page, which opens what it has of them: else all but the one that is shown would be lost with a server."""
+        done = super()._initialize(number, params)
+        capabilities = dict(done.result["capabilities"], experimental={"exercises": sorted(self.exercises)})
+        return Answered(dict(done.result, capabilities=capabilities))
 
     def told(self) -> None:
         """There is news."""
