@@ -1,7 +1,7 @@
 """Makes the package for Python: what `pip install .` calls. It needs nothing but Python, so an installation fetches nothing.
 
-The hooks of PEP 517 are `build_wheel` and `build_sdist`. A wheel is a zip of the package `holls`, of what it carries in holls/data (the library, the
-page, the released program), and of what is said of it, which is taken from pyproject.toml.
+The hooks of PEP 517 and 660 are `build_wheel`, `build_editable` and `build_sdist`. A wheel is a zip of the package `holls`, of what it carries in
+holls/data (the library, the page, the released program), and of what is said of it, which is taken from pyproject.toml.
 """
 
 from __future__ import annotations
@@ -63,10 +63,8 @@ def _stem() -> str:
     return "%s-%s" % (project["name"].replace("-", "_"), project["version"])
 
 
-def _contents() -> Iterator[Tuple[str, bytes]]:
-    """All files of a wheel but the last one."""
-    for name, path in files():
-        yield name, path.read_bytes()
+def _about() -> Iterator[Tuple[str, bytes]]:
+    """The files of a wheel that say what it is, but the last one."""
     scripts = "".join("%s = %s\n" % one for one in about()["project.scripts"].items())
     said = {"METADATA": metadata(), "WHEEL": WHEEL, "entry_points.txt": "[console_scripts]\n" + scripts}
     for name, text in said.items():
@@ -76,11 +74,20 @@ def _contents() -> Iterator[Tuple[str, bytes]]:
 
 def build_wheel(wheel_directory: str, config_settings: Optional[Any] = None, metadata_directory: Optional[str] = None) -> str:
     """Writes the wheel into a folder, and answers its name."""
+    return _wheel(wheel_directory, [(name, path.read_bytes()) for name, path in files()])
+
+
+def build_editable(wheel_directory: str, config_settings: Optional[Any] = None, metadata_directory: Optional[str] = None) -> str:
+    """Writes one by which the package runs from this clone, as `pip install -e .` wants it."""
+    return _wheel(wheel_directory, [(_stem().split("-")[0] + ".pth", ("%s\n" % HERE).encode())])
+
+
+def _wheel(folder: str, installed: List[Tuple[str, bytes]]) -> str:
     name = _stem() + "-py3-none-any.whl"
     record = "%s.dist-info/RECORD" % _stem()
     rows: List[str] = []
-    with zipfile.ZipFile(pathlib.Path(wheel_directory, name), "w", zipfile.ZIP_DEFLATED) as wheel:
-        for inside, data in _contents():
+    with zipfile.ZipFile(pathlib.Path(folder, name), "w", zipfile.ZIP_DEFLATED) as wheel:
+        for inside, data in [*installed, *_about()]:
             digest = base64.urlsafe_b64encode(hashlib.sha256(data).digest()).rstrip(b"=").decode()
             rows.append("%s,sha256=%s,%d\n" % (inside, digest, len(data)))
             _put(wheel, inside, data)

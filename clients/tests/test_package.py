@@ -64,6 +64,14 @@ class Package(unittest.TestCase):
             self.assertIn("\nRequires-Dist: aiohttp>=3.8 ; extra == 'serve'\n", said)
             self.finds_the_library(folder, [*PYTHON[:1], "-m", "holls"], env=dict(os.environ, PYTHONPATH=str(folder / "made")))
 
+    def test_one_that_runs_from_the_clone_names_it(self):
+        with tempfile.TemporaryDirectory() as name:
+            words = [*PYTHON, "-c", "import sys; sys.path.insert(0, sys.argv[1]); import wheels; print(wheels.build_editable(sys.argv[2]))"]
+            ran = subprocess.run([*words, str(CLIENTS), name], check=True, capture_output=True, timeout=SECONDS)
+            with zipfile.ZipFile(pathlib.Path(name) / ran.stdout.decode().strip()) as wheel:
+                self.assertEqual(wheel.read("hol_serve.pth").decode(), "%s\n" % CLIENTS)
+                self.assertFalse([one for one in wheel.namelist() if one.startswith("holls/")])
+
     @unittest.skipUnless(importlib.util.find_spec("pip"), "pip isn't installed")
     def test_pip_installs_it_without_a_network(self):
         """Where an index would be asked, there is none: nothing is fetched, setuptools neither."""
