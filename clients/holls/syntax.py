@@ -146,6 +146,8 @@ def _hint(text: str, token: str, before: List[str]) -> str:
     if before.count("`") % 2 == 0:
         if token == ";":
             return "; a command ends with `;;`"
+        if token in notation.FORWARD and before[:1] and before[0] in notation.STEPS:
+            return _rule_bare(token, before)
         is_short = before and before[0] in notation.COMMANDS and before[0] not in notation.STEPS
         return "; expected %s" % notation.COMMANDS[before[0]] if is_short else ""
     if before[0] == "new_definition":
@@ -157,6 +159,14 @@ def _hint(text: str, token: str, before: List[str]) -> str:
     if word and token in (".", ",", ":", "("):
         return "; `%s` is a plain name here: write `%s`" % (word, _IN_WORDS[word])
     return _in_term(token)
+
+
+def _rule_bare(rule: str, before: List[str]) -> str:
+    """The hint at a rule outside of parentheses: where a tactic is to stand, or as its argument."""
+    if before[-1] in (*notation.STEPS, *notation.TACTICALS, "(", "[", ";") or before[0] == "deftac" and len(before) == 2:
+        own = rule + "_TAC"
+        return "; it makes a theorem, and a tactic is wanted here: ACCEPT_TAC (%s)%s" % (notation.FORWARD[rule], ", or " + own if own in notation.TACS else "")
+    return "; a rule stands in parentheses here: (%s)" % notation.FORWARD[rule]
 
 
 def _in_term(token: str) -> str:
