@@ -9,10 +9,10 @@ import time
 import unittest
 
 from holls import files, names, server
-from holls.protocol import Goal, Goals
+from holls.protocol import Error, Goal, Goals
 from holls.prover import clauses, clock, equality, finding, ground, named, reading, retyping, scope, scripts, sequents, substituting, tables, trying
 from holls.prover import typed, writing
-from holls.prover.asking import Asker
+from holls.prover.asking import THEORY, Asker
 from holls.prover.finder import Finder
 from holls.prover.scripts import Step
 from tests.helpers import BUILT, CLIENTS, HOLLS, PYTHON, ROOT, SECONDS, fake
@@ -125,6 +125,26 @@ def formula(random_numbers, depth):
         return typed.mk_not(formula(random_numbers, depth - 1))
     connective = ("c", kind, typed.fun(typed.BOOL, typed.fun(typed.BOOL, typed.BOOL)))
     return typed.apply(connective, formula(random_numbers, depth - 1), formula(random_numbers, depth - 1))
+
+
+class Copies(unittest.TestCase):
+    def test_what_stands_before_a_copy_changes_none_of_its_places(self):
+        with tempfile.TemporaryDirectory() as folder:
+            asker = Asker([fake(pathlib.Path(folder))], SECONDS)
+            self.addCleanup(asker.stop)
+            asker.add("T", ["new_axiom A `p`"])
+            goal = "g B `x = x`"
+            for texts, idle in ([goal], 0), (["import T", goal], 31), (["import T"] * 40 + ["deftac D REFL_TAC", goal], 24), (["import T"] * 900 + [goal], 0):
+                asker.copy(texts)
+                self.assertEqual(asker.count, len(texts))
+                self.assertIsInstance(asker.report(asker.count - 1), Goals)
+                self.assertIsInstance(asker.report(asker.count), Error)
+                self.assertEqual(asker.step("e REFL_TAC").goals, ())
+                self.assertEqual(asker.count, len(texts) + 1)
+                asker.back(len(texts))
+                self.assertEqual(len(asker.report(len(texts) - 1).goals), 1)
+                self.assertIsInstance(asker.ask({"op": "report", "theory": THEORY, "at": idle + len(texts) - 1}), Goals)
+                asker.forget()
 
 
 class Propositional(unittest.TestCase):
@@ -327,6 +347,8 @@ class NamedFunctions(unittest.TestCase):
     def setUp(self):
         self.asker = Naming(server.find(str(BUILT)), SECONDS)
         self.addCleanup(self.asker.stop)
+        clock.use(time.process_time)  # A machine that does much else leaves as much time for shorter steps.
+        self.addCleanup(clock.use, time.monotonic)
         self.known = scope.Scope()
         self.known.theorems["MIDDLE"] = scripts.MIDDLE
 
@@ -335,7 +357,7 @@ class NamedFunctions(unittest.TestCase):
         self.known.functions = dict.fromkeys(functions, frozenset())
         self.asker.copy([*self.AXIOMS, "g GOAL `%s`" % goal])
         goals = self.asker.report(len(self.AXIOMS))
-        steps = Finder(self.asker, self.known, goals, goal, time.monotonic() + SEARCH_SECONDS).find(theorems)
+        steps = Finder(self.asker, self.known, goals, goal, clock.now() + SEARCH_SECONDS).find(theorems)
         self.asker.forget()
         return steps
 
@@ -343,7 +365,7 @@ class NamedFunctions(unittest.TestCase):
         """The commands of steps into which uses are put; None where there are none."""
         self.asker.copy([*self.AXIOMS, "g GOAL `%s`" % goal])
         goals = self.asker.report(len(self.AXIOMS))
-        made = named.Uses(self.asker, named.Functions(dict.fromkeys(functions, frozenset())), goals, time.monotonic() + SECONDS).shortened(step)
+        made = named.Uses(self.asker, named.Functions(dict.fromkeys(functions, frozenset())), goals, clock.now() + SECONDS).shortened(step)
         self.assertEqual(self.asker.count, len(self.AXIOMS) + 1)
         self.asker.forget()
         return made and scripts.commands(made)

@@ -5,7 +5,7 @@ from __future__ import annotations
 import queue
 import time
 from collections import deque
-from typing import Any, Deque, Dict, List, Optional, Sequence, Tuple, Union
+from typing import Any, Deque, Dict, List, NamedTuple, Optional, Sequence, Union
 
 from holls import protocol
 from holls.protocol import Goals, Made, Refusal
@@ -13,9 +13,24 @@ from holls.server import Lines, Server
 
 THEORY = "holls_prover"
 """The name of the copy in which steps are tried."""
+_SPACING = 32
+"""The program keeps its state at each so many-th command of a theory, and goes on from the last one that it kept."""
+_ROOM = 200
+"""So many commands more are to stand in a theory in which steps are tried."""
+_NOTHING = "b"
+"""A command that is refused where no proof is open, and so does nothing."""
+
 
 class Silent(Exception):
     """The program has ended, or gave no answer in time; the text says which."""
+
+
+class _Standing(NamedTuple):
+    """A theory that stands, with its commands; the first ones do nothing."""
+
+    name: str
+    texts: List[str]
+    idle: int = 0
 
 
 class Asker:
@@ -23,7 +38,7 @@ class Asker:
 
     def __init__(self, program: Sequence[str], seconds: float) -> None:
         self.program, self.seconds = list(program), seconds
-        self._stand: List[Tuple[str, List[str]]] = []
+        self._stand: List[_Standing] = []
         self._spent = 0.0
         self._begin()
 
@@ -38,13 +53,13 @@ class Asker:
         self.stop()
         self._begin()
         stood, self._stand = self._stand, []
-        for theory, texts in stood:
-            self.add(theory, texts)
+        for one in stood:
+            self._put(one)
 
     @property
     def count(self) -> int:
         """How many commands the copy has."""
-        return len(self._stand[-1][1])
+        return len(self._stand[-1].texts) - self._stand[-1].idle
 
     def stop(self) -> None:
         """Ends the server."""
@@ -83,9 +98,12 @@ class Asker:
 
     def add(self, theory: str, texts: Sequence[str]) -> None:
         """Puts a theory behind those that stand."""
-        requests = [{"op": "new_theory", "name": theory, "at": len(self._stand)}]
-        requests += [{"op": "insert", "theory": theory, "at": at, "text": text} for at, text in enumerate(texts)]
-        self._stand.append((theory, list(texts)))
+        self._put(_Standing(theory, list(texts)))
+
+    def _put(self, standing: _Standing) -> None:
+        requests = [{"op": "new_theory", "name": standing.name, "at": len(self._stand)}]
+        requests += [{"op": "insert", "theory": standing.name, "at": at, "text": text} for at, text in enumerate(standing.texts)]
+        self._stand.append(standing)
         self._ask_all(requests)
 
     def _ask_all(self, requests: Sequence[Dict[str, Any]]) -> None:
@@ -95,22 +113,26 @@ class Asker:
             self._answer(None)
 
     def copy(self, texts: Sequence[str]) -> None:
-        """Puts the commands of a proof up to where it is."""
-        self.add(THEORY, texts)
+        """Puts the commands of a proof up to where it is. Commands that do nothing stand before them, so that the program keeps its state behind the last
+        import, and no step that is tried goes through these again; none where the theory is nearly full."""
+        imports = [at for at, text in enumerate(texts) if text.startswith("import ")]
+        idle = -(imports[-1] + 1) % _SPACING if imports and len(texts) < protocol.COMMANDS - _ROOM else 0
+        self._put(_Standing(THEORY, [_NOTHING] * idle + list(texts), idle))
 
     def extend(self, texts: Sequence[str]) -> None:
         """Puts more commands behind those of the copy."""
-        self._ask_all([{"op": "insert", "theory": THEORY, "at": self.count + at, "text": text} for at, text in enumerate(texts)])
-        self._stand[-1][1].extend(texts)
+        own = self._stand[-1].texts
+        self._ask_all([{"op": "insert", "theory": THEORY, "at": len(own) + at, "text": text} for at, text in enumerate(texts)])
+        own.extend(texts)
 
     def forget(self) -> None:
         """Takes the last theory out, or the copy."""
-        self.ask({"op": "drop_theory", "name": self._stand[-1][0]})
+        self.ask({"op": "drop_theory", "name": self._stand[-1].name})
         self._stand.pop()
 
     def report(self, at: int) -> Union[Goals, Made, Refusal, protocol.Error]:
         """The report on a command of the copy."""
-        return self.ask({"op": "report", "theory": THEORY, "at": at})
+        return self.ask({"op": "report", "theory": THEORY, "at": self._stand[-1].idle + at})
 
     def theorems(self) -> List[str]:
         """The names of the theorems that stand in the copy."""
@@ -119,12 +141,13 @@ class Asker:
 
     def step(self, text: str, until: Optional[float] = None) -> Union[Goals, Made, Refusal, protocol.Error]:
         """Puts a step behind the last command, and answers its report; one that is refused is taken out again."""
-        put = protocol.line({"op": "insert", "theory": THEORY, "at": self.count, "text": text})
-        self._server.send(put + b"\n" + protocol.line({"op": "report", "theory": THEORY, "at": self.count}))
+        own = self._stand[-1].texts
+        put = protocol.line({"op": "insert", "theory": THEORY, "at": len(own), "text": text})
+        self._server.send(put + b"\n" + protocol.line({"op": "report", "theory": THEORY, "at": len(own)}))
         done, report = self._answer(until), self._answer(until)
         if not isinstance(done, protocol.Done):
             return done
-        self._stand[-1][1].append(text)
+        own.append(text)
         if not isinstance(report, (Goals, Made)):
             self.back(self.count - 1)
         return report
@@ -139,6 +162,7 @@ class Asker:
 
     def back(self, count: int) -> None:
         """Takes steps out until so many commands stand."""
-        while self.count > count:
-            self._stand[-1][1].pop()
-            self.ask({"op": "remove", "theory": THEORY, "at": self.count})
+        own = self._stand[-1]
+        while len(own.texts) - own.idle > count:
+            own.texts.pop()
+            self.ask({"op": "remove", "theory": THEORY, "at": len(own.texts)})

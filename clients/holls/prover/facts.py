@@ -28,6 +28,11 @@ class Fact:
         return patterns.head(self.term)
 
     @cached_property
+    def heads(self) -> FrozenSet[str]:
+        """The constants that what it concludes begins with, or the left side of it where that is an equation."""
+        return frozenset(filter(None, (patterns.head(patterns.rewritten(one.conclusion)) for one in self.patterns)))
+
+    @cached_property
     def constants(self) -> FrozenSet[str]:
         """The names of its constants."""
         return frozenset(part[1] for part in typed.subterms(self.term) if part[0] == "c")

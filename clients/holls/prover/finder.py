@@ -52,7 +52,7 @@ class Finder:
     def __init__(self, asker: Asker, standing: Scope, goals: Goals, written: str, until: float, known: Optional[Knowledge] = None) -> None:
         self.asker, self.scope, self.until, self.goals = asker, standing, until, goals
         self.known = known or Knowledge(standing)
-        self.functions = named.Functions(standing.functions)
+        self.functions = named.Functions(standing.functions, standing.concerns)
         self.ways = Ways(until)
         self._scale = (until - clock.now()) / _USUAL_SECONDS
         self.is_too_deep = False
@@ -157,11 +157,15 @@ class Finder:
         atoms = tables.atoms(place.items)
         if len(atoms) <= tables.MOST_ATOMS:
             yield Way("a truth table", lambda: ways.table(place, atoms) if tables.is_valid(place.items, atoms) else None)
+        is_of_sets = not names and bool(place.known.membership(place.terms))
+        if is_of_sets:
+            yield Way("elements and definitions", lambda: ways.prepared(place, [], [], soon(0.5)))
         yield Way("logic alone", lambda: ways.search(place, [], soon(0.2)))
         if _is_conjunction(place.shown.conclusion):
             yield Way("each part by itself", lambda: self._by_parts(place, names))
         yield Way("a theorem that leaves less", lambda: ways.exactly(place, False))
-        yield Way("elements and definitions", lambda: ways.prepared(place, [], [], soon(0.5)))
+        if not is_of_sets:
+            yield Way("elements and definitions", lambda: ways.prepared(place, [], [], soon(0.5)))
         yield from self._by_premises(place, names)
         yield Way("logic alone", lambda: ways.search(place, names, self.until))
 

@@ -129,7 +129,7 @@ class FirstOrder:
 
     def _used(self, step: Step) -> List[Step]:
         """Shorter steps that do the same by named tactics."""
-        if not self.place.functions.names:
+        if not self.place.functions.at(self.place.goals.goals[0]):
             return []
         until = clock.now() + _USING_SECONDS
         used = named.Uses(self.place.asker, self.place.functions, self.place.goals, until).shortened(step)

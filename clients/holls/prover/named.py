@@ -22,20 +22,22 @@ _WORD = re.compile(r"[A-Za-z_][A-Za-z0-9_']*")
 
 
 class Functions:
-    """Those that may stand at a goal, the shortest name first, with the variables that they name.
+    """Those that may stand at a goal, the shortest name first, with the variables that they name, and the constants that they are about.
 
     One that doesn't stand, or has no answer in time, isn't tried again.
     """
 
-    def __init__(self, functions: Mapping[str, FrozenSet[str]]) -> None:
+    def __init__(self, functions: Mapping[str, FrozenSet[str]], concerns: Optional[Mapping[str, FrozenSet[str]]] = None) -> None:
         names = sorted(reversed(list(functions)), key=len)
         self.names = {name: functions[name] for name in names}
+        self._concerns = {name: own for name, own in (concerns or {}).items() if all(map(_WORD.fullmatch, own))}
         self._lost = 0
 
     def at(self, goal: Goal) -> List[str]:
-        """The functions that may be meant for a goal: it has a variable that they name, where they name any."""
+        """The functions that may be meant for a goal: it has a variable that they name, and a constant that they are about, where there are any."""
         words = frozenset(_WORD.findall(" ".join((goal.conclusion,) + goal.assumptions)))
-        return [name for name, variables in self.names.items() if not variables or variables & words]
+        return [name for name, variables in self.names.items()
+                if all(not own or own & words for own in (variables, self._concerns.get(name, frozenset())))]
 
     def after(self, asker: Asker, name: str, form: str = "%s") -> Optional[Goals]:
         """The goals after a step that uses a function, which stands then; None where it is refused or isn't tried."""

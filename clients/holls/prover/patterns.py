@@ -102,6 +102,15 @@ def head(term: Term) -> Optional[str]:
     return term[1] if term[0] == "c" else None
 
 
+def rewritten(conclusion: Term) -> Term:
+    """What a theorem with a conclusion rewrites: the left side of an equation, what is denied, or all of it."""
+    sides = typed.binary(conclusion)
+    if sides and sides[0] in ("=", "<=>"):
+        return sides[1]
+    inner = typed.negated(conclusion)
+    return conclusion if inner is None else inner
+
+
 def fitting(premises: Sequence[Term], known: Sequence[Term], binding: Binding) -> Iterator[Binding]:
     """What variables are where each premise is one of the formulas that are known."""
     if not premises:

@@ -44,15 +44,17 @@ class Place:
         """Whether a step closes the goal, and leaves the others as they are; it is taken back."""
         return trying.check(self.asker, ["e " + text], self.goals)
 
-    def checked(self, texts: Optional[List[str]], seconds: float = LEAVING_SECONDS) -> Optional[List[str]]:
+    def checked(self, texts: Optional[List[str]], first: Optional[int] = None) -> Optional[List[str]]:
         """Commands that close the goal, without calls that it doesn't need; None where they don't."""
-        return self.fewer(texts, seconds) if texts and trying.check(self.asker, texts, self.goals) else None
+        return self.fewer(texts, first) if texts and trying.check(self.asker, texts, self.goals) else None
 
-    def fewer(self, texts: List[str], seconds: float = LEAVING_SECONDS) -> List[str]:
-        """Commands that close the goal, without calls and theorems that it doesn't need."""
-        until = clock.now() + seconds
-        texts = trying.fewer(self.asker, texts, self.goals, until)
-        return trying.shorter(self.asker, texts, self.goals, until)
+    def fewer(self, texts: List[str], first: Optional[int] = None) -> List[str]:
+        """Commands that close the goal, without calls and theorems that it doesn't need; or so many of them at the beginning."""
+        until = clock.now() + LEAVING_SECONDS
+        made = trying.fewer(self.asker, texts, self.goals, until, first)
+        if len(made) != len(texts):  # The first ones are one less.
+            first = None if first is None else first - 1
+        return trying.shorter(self.asker, made, self.goals, until, first)
 
     def fine(self, names: Sequence[str]) -> List[str]:
         """Those of some theorems by which rewriting is likely to end."""

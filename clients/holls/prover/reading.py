@@ -4,7 +4,7 @@ from __future__ import annotations
 
 import re
 from dataclasses import dataclass, field
-from typing import Dict, List, Optional, Tuple
+from typing import Dict, FrozenSet, List, Optional, Tuple
 
 from holls.prover import typed
 from holls.prover.typed import BOOL, Hint, Term, Type, fun
@@ -34,7 +34,7 @@ class Signature:
     constructors: Dict[str, int] = field(default_factory=lambda: {"bool": 0, "ind": 0, "fun": 2})
 
 
-class _Types:
+class Types:
     """Types that aren't known yet, and what they turn out to be."""
 
     def __init__(self) -> None:
@@ -68,6 +68,13 @@ class _Types:
         ty = self.find(ty)
         return ty == number or isinstance(ty, tuple) and any(self.occurs(number, part) for part in ty[1:])
 
+    def open(self, ty: Type) -> FrozenSet[int]:
+        """What isn't known yet of a type."""
+        ty = self.find(ty)
+        if isinstance(ty, tuple):
+            return frozenset().union(*map(self.open, ty[1:]))
+        return frozenset((ty,)) if isinstance(ty, int) else frozenset()
+
     def fresh(self, ty: Type, known: Dict[str, Type]) -> Type:
         """A most general type at types that aren't known."""
         if isinstance(ty, tuple):
@@ -88,7 +95,7 @@ class _Reader:
     def __init__(self, text: str, signature: Signature, free: Dict[str, Type]) -> None:
         self.tokens = _tokens(text)
         self.at = self.depth = 0
-        self.signature, self.types = signature, _Types()
+        self.signature, self.types = signature, Types()
         self.free: Dict[str, Type] = dict(free)
         self.bound: List[Tuple[str, Type]] = []
 

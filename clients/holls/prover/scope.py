@@ -33,6 +33,8 @@ class Scope:
         self.signature = Signature()
         self.functions: Dict[str, FrozenSet[str]] = {}
         """Of each named tactic the variables that it names, free in its quotations."""
+        self.concerns: Dict[str, FrozenSet[str]] = {}
+        """Of each named tactic the constants that what it cites rewrites or concludes; none where all of these are logical, or it cites nothing."""
         self.theorems: Dict[str, Term] = {}
         self.simple: Dict[str, None] = {}
         self.definitions: Dict[str, str] = {"ONE_ONE": "ONE_ONE", "ONTO": "ONTO"}
@@ -85,7 +87,7 @@ class Scope:
         elif word == "deftac":
             variables = self._named_variables(text)
             self.functions.pop(given[0], None)
-            self.functions[given[0]] = variables
+            self.functions[given[0]], self.concerns[given[0]] = variables, self._concerned(text)
         elif word == "new_type":
             self.signature.constructors[given[0]] = int(given[1])
         elif word == "new_basic_type_definition":
@@ -103,6 +105,14 @@ class Scope:
             except (Unreadable, RecursionError):
                 continue
         return frozenset(found)
+
+    def _concerned(self, text: str) -> FrozenSet[str]:
+        """The constants, but for the logical ones, that the theorems in a command rewrite or conclude, and those of the tactics that it uses."""
+        found: Set[str] = set()
+        for word in re.findall(r"[A-Za-z_][A-Za-z0-9_']*", " ".join(text.split("`")[::2])):
+            found |= self.concerns.get(word, frozenset())
+            found |= self.fact(word).heads if word in self.theorems else frozenset()
+        return frozenset(found - _LOGICAL)
 
     def _add_type(self, constructor: str, abstraction: str, representation: str, first: str, second: str, theorem: str) -> None:
         """Takes a defined type, its two constants and their theorems."""
@@ -131,7 +141,7 @@ class Scope:
         other = Scope()
         other.signature = Signature(dict(self.signature.constants), dict(self.signature.constructors))
         other.functions, other.theorems, other.definitions = dict(self.functions), dict(self.theorems), dict(self.definitions)
-        other.simple = dict(self.simple)
+        other.simple, other.concerns = dict(self.simple), dict(self.concerns)
         other._facts = self._facts
         return other
 
@@ -139,7 +149,7 @@ class Scope:
         """The same without some theorems."""
         left = Scope()
         left.signature, left.functions, left.definitions, left._facts = self.signature, self.functions, self.definitions, self._facts
-        left.simple = self.simple
+        left.simple, left.concerns = self.simple, self.concerns
         left.theorems = {name: said for name, said in self.theorems.items() if name not in names}
         return left
 

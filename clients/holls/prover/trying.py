@@ -134,14 +134,15 @@ def check(asker: Asker, texts: Sequence[str], goals: Goals) -> bool:
     return found is not None and found.goals == goals.goals[1:]
 
 
-def fewer(asker: Asker, texts: Sequence[str], goals: Goals, until: float) -> List[str]:
-    """Commands that close the first goal without the calls that they don't need: each is tried without, the last one first."""
+def fewer(asker: Asker, texts: Sequence[str], goals: Goals, until: float, first: Optional[int] = None) -> List[str]:
+    """Commands that close the first goal without the calls that they don't need: each is tried without, the last one first; or those of so many commands at
+    the beginning."""
     mark = asker.count
     made = [pieces(text[len("e "):]) for text in texts]
-    for text in texts[:-1]:
+    for text in texts[:first][:-1]:
         goals_after(asker, text[len("e "):])
     longest = 0.0
-    for at in reversed(range(len(made))):
+    for at in reversed(range(len(made[:first]))):
         asker.back(mark + at)
         for number in reversed(range(len(made[at]))):
             rest, now = made[at][:number] + made[at][number + 1:], clock.now()
@@ -154,12 +155,12 @@ def fewer(asker: Asker, texts: Sequence[str], goals: Goals, until: float) -> Lis
 _LIST = re.compile(r"\[([A-Za-z0-9_'; ]*;[A-Za-z0-9_'; ]*)\]")
 
 
-def shorter(asker: Asker, texts: Sequence[str], goals: Goals, until: float) -> List[str]:
-    """Commands that close the first goal without the theorems in their lists that they don't need, as far as time allows."""
+def shorter(asker: Asker, texts: Sequence[str], goals: Goals, until: float, first: Optional[int] = None) -> List[str]:
+    """Commands that close the first goal without the theorems in their lists that they don't need, as far as time allows; or so many at the beginning."""
     made, mark = list(texts), asker.count
-    for text in made[:-1]:
+    for text in made[:first][:-1]:
         goals_after(asker, text[len("e "):])
-    for at in reversed(range(len(made))):
+    for at in reversed(range(len(made[:first]))):
         asker.back(mark + at)
         for number in reversed(range(len(_LIST.findall(made[at])))):  # One that has become a single name is no list of several any more.
             made[at] = _with_shorter_list(asker, made, at, number, goals, until)

@@ -7,11 +7,13 @@ from typing import Callable, List, NamedTuple, Optional, Sequence
 from holls.protocol import Goals
 from holls.prover import arithmetic, clock, named, preparing, retyping, scripts, shaping, simplifying, tables, trying, typed
 from holls.prover.arithmetic import Arithmetic
+from holls.prover.finding import Item
 from holls.prover.firstorder import FirstOrder
 from holls.prover.induction import Beginnings
 from holls.prover.place import Place, has
 from holls.prover.reordering import Reordering
 from holls.prover.scripts import Scribe, Step
+from holls.prover.shown import stripped
 from holls.prover.simplifying import Instance, Instances
 from holls.prover.typed import Term
 from holls.prover.writing import Unwritable
@@ -25,6 +27,8 @@ _CLOSING = 0.1
 _EXACT_STEPS = 8
 _NAMED = 8
 """Of no more theorems than these each is likely to be meant."""
+_FEW_ATOMS = 6
+"""So many atoms of a goal are taken by cases in one command."""
 _FEW_NAMES = 14
 """So many theorems rewrite at once."""
 _SEARCH_SECONDS = 0.25
@@ -155,7 +159,7 @@ class Ways:
     def prepared(self, place: Place, rules: Sequence[str], names: Sequence[str], until: float) -> Commands:
         """Steps that rewrite the goal first, to sets' elements and the like, and then search."""
         for text in preparing.preparations(place.shown, place.known, rules):
-            found = place.checked(self.behind(place, text, lambda inner: self._prepared(inner, names, until)))
+            found = place.checked(self.behind(place, text, lambda inner: self._prepared(inner, names, until)), 1)
             if found or clock.now() > until:
                 return found
         return None
@@ -167,10 +171,27 @@ class Ways:
                 found = self.behind(place, strips, lambda inner: self.at_once(inner) or self.search(inner, names, until))
                 if found:
                     return found
-        found = self.at_once(place) or self.search(place, names, until)
+        found = self.at_once(place) or self._by_cases(place) or self.search(place, names, until)
         if found or not place.known.is_inductive(place.terms):
             return found
         return self.by_induction(place, names, min(self.until, clock.now() + _SEARCH_SECONDS))
+
+    def _by_cases(self, place: Place) -> Commands:
+        """Steps that take the atoms of a goal by cases, behind its quantifiers, where it holds whatever these are."""
+        items = place.items[:-1] + [Item(False, stripped(place.shown.conclusion), True)]
+        atoms = tables.atoms(items)
+        if not 0 < len(atoms) <= _FEW_ATOMS or not tables.is_valid(items, atoms):
+            return None
+        return self._cases(place) if _is_stripped(place) else self.behind(place, "REPEAT GEN_TAC", self._cases)
+
+    @staticmethod
+    def _cases(place: Place) -> Commands:
+        scribe = Scribe(place.known.quoter, place.known.middle)
+        try:
+            step = tables.steps(place.items, tables.atoms(place.items), scribe.middle, scribe.assume)
+        except Unwritable:
+            return None
+        return None if has(step, scripts.UNWRITTEN) else place.checked(scripts.commands(scribe.with_middle(step)))
 
     def behind(self, place: Place, text: str, close: Callable[[Place], Commands]) -> Commands:
         """Steps behind one that changes the goal: what closes each goal that it leaves."""

@@ -4,15 +4,13 @@ from __future__ import annotations
 
 from typing import Dict, FrozenSet, List, Optional, Tuple
 
-from holls.prover import reading, typed
+from holls.prover import annotating, reading, typed
+from holls.prover.annotating import BINDER, BINDERS, CONSTANT
 from holls.prover.reading import Signature, Unreadable
 from holls.prover.typed import Term, Type
 
 _LEVELS = {"<=>": 0, "==>": 2, "\\/": 4, "/\\": 6, "=": 8}
 _NEGATION, _APPLICATION = 10, 12
-_BINDERS = ("!", "?", "?!", "@")
-_CONSTANT, _BINDER = 0, 1
-"""Places that may have a type beside free variables, which are kept where they can be: those of constants are left out first."""
 _SYMBOLS = frozenset(("/\\", "\\/", "==>", "=", "~", "!", "?", "?!", "@"))
 
 
@@ -41,7 +39,6 @@ class _Writer:
         self.annotated, self.taken = annotated, taken
         self.said: set = set()
         self.places = 0
-        self.points: List[object] = []
         self.text = self.write(term, [], 0)
 
     def write(self, term: Term, bound: List[str], level: int) -> str:
@@ -53,7 +50,7 @@ class _Writer:
             return _enclosed("%s %s %s" % (self.write(left, bound, own + 1), name, self.write(right, bound, own)), own < level)
         if term[0] == "a" and term[1][0] == "c" and term[1][1] == "~":
             return _enclosed("~" + self.write(term[2], bound, _NEGATION), _NEGATION < level)
-        if term[0] == "l" or term[0] == "a" and term[1][0] == "c" and term[1][1] in _BINDERS and term[2][0] == "l":
+        if term[0] == "l" or term[0] == "a" and term[1][0] == "c" and term[1][1] in BINDERS and term[2][0] == "l":
             return _enclosed(self.binder(term, bound), level > 0)
         if term[0] == "a":
             text = "%s %s" % (self.write(term[1], bound, _APPLICATION), self.write(term[2], bound, _APPLICATION + 1))
@@ -71,10 +68,9 @@ class _Writer:
             self.said.add(point)
         else:
             self.places += 1
-            point, is_first = (_CONSTANT, self.places), True
+            point, is_first = (CONSTANT, self.places), True
         name = "(%s)" % term[1] if term[1] in _SYMBOLS else term[1]
         if is_first:
-            self.points.append(point)
             if point in self.annotated:
                 return "(%s:%s)" % (name, type_text(term[2]))
         return name
@@ -85,8 +81,7 @@ class _Writer:
         while True:
             inner = term if kind == "\\" else term[2]
             self.places += 1
-            point = _BINDER, self.places
-            self.points.append(point)
+            point = BINDER, self.places
             name = self.fresh(inner, bound)
             parts.append("(%s:%s)" % (name, type_text(inner[2])) if point in self.annotated else name)
             bound, term = bound + [name], inner[3]
@@ -139,25 +134,16 @@ class Quoter:
 
     def _text(self, term: Term) -> str:
         """The text with the fewest types, those of variables first."""
+        is_open = any(name.startswith("?") for name in typed.term_types(term))
         annotated: FrozenSet[object] = frozenset()
-        written = _Writer(term, annotated, self.taken)
-        if self._reads(written.text, term):
-            return _bare(written.text)
-        names = [point for point in written.points if isinstance(point, str)]
-        places = sorted((point for point in written.points if not isinstance(point, str)), key=lambda point: (point[0], point[0] * -point[1]))
-        annotated = frozenset(names)
-        if self._reads(_Writer(term, annotated, self.taken).text, term):
-            places = []  # With the variables' types nothing else needs one, as mostly.
-        else:
-            annotated = frozenset(written.points)
-        if any(name.startswith("?") for name in typed.term_types(term)):
-            raise Unwritable(written.text)
-        if not self._reads(_Writer(term, annotated, self.taken).text, term):
-            raise Unwritable(written.text)
-        for point in places + names[::-1]:
-            if self._reads(_Writer(term, annotated - {point}, self.taken).text, term):
-                annotated -= {point}
-        return _bare(_Writer(term, annotated, self.taken).text)
+        try:
+            annotated = frozenset() if is_open else annotating.needed(term, self.signature)
+        except (KeyError, Unreadable):
+            pass  # A constant that doesn't stand, or no term of one type: the text doesn't read as it.
+        text = _Writer(term, annotated, self.taken).text
+        if not self._reads(text, term):
+            raise Unwritable(text)
+        return _bare(text)
 
     def _reads(self, text: str, term: Term) -> bool:
         try:
