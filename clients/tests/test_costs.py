@@ -17,7 +17,7 @@ from holls.session import AHEAD, WINDOW, Session
 from holls.sweep import Sweep
 from holls.theory import Theory
 from tests.fake_server import EDITS, Documents
-from tests.helpers import CLIENTS, PYTHON, SECONDS, proofs
+from tests.helpers import CLIENTS, HOLLS, PYTHON, SECONDS, fake, proofs
 from tests.test_notation import NUMBERS, loaded
 
 SERVED = frozenset(EDITS)
@@ -168,6 +168,22 @@ class Together(OverPlayed):
         with mock.patch("holls.session.time.monotonic", lambda: session._since + 30):
             session.hear(program.answered())
         self.assertEqual(program.sends, [WINDOW, 1])
+
+    def test_a_check_has_each_command_run_and_told_once_whoever_imports_its_file(self):
+        imports = {"A": "", "B": "A", "C": "A", "D": "BC", "E": "DA", "F": "C"}
+        with tempfile.TemporaryDirectory() as folder:
+            log, path = pathlib.Path(folder, "log"), pathlib.Path(folder, "theories")
+            path.mkdir()
+            for name, others in imports.items():
+                (path / (name + ".hol")).write_text("".join("import %s;;\n" % other for other in others) + "g %s `x = x`;;\ne REFL_TAC;;\nqed;;\n" % name)
+            words = [*PYTHON, str(HOLLS), "check", "--jobs", "3", "--server", fake(folder, "--log", log), str(path)]
+            subprocess.run(words, stdout=subprocess.DEVNULL, timeout=SECONDS, check=True)
+            asked = [json.loads(line) for line in log.read_text().splitlines()]
+        commands = sorted((name, at) for name, others in imports.items() for at in range(len(others) + 3))
+        self.assertEqual(sorted(request["name"] for request in asked if request["op"] == "new_theory"), sorted(imports))
+        for op in ("insert", "report"):
+            self.assertEqual(sorted((request["theory"], request["at"]) for request in asked if request["op"] == op), commands, op)
+        self.assertEqual(len(asked), len(imports) + 2 * len(commands))
 
     def test_replies_that_many_requests_await_are_read_together(self):
         """The program writes each by itself. Behind the first ones the reader waits until there are more, here until all are written."""

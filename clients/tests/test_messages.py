@@ -124,7 +124,7 @@ class Memory(unittest.TestCase):
             events = queue.Queue()
             started = server.Server(limited([fake(folder)], 4000 << 20), events)
             started.send(b'{"op":"stats"}')
-            self.assertEqual(events.get(timeout=SECONDS).data, b'{"ok":true,"ran":0}\n')
+            self.assertEqual(events.get(timeout=SECONDS).lines, [b'{"ok":true,"ran":0}'])
             told = pathlib.Path("/proc/%d/limits" % started.process.pid).read_text()
             started.stop()
             started.process.wait()
