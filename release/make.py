@@ -21,7 +21,7 @@ import sys
 HERE = pathlib.Path(__file__).resolve().parent
 ROOT = HERE.parent
 PACKED, ABOUT, CHANGES = HERE / "hol_serve.xz", HERE / "about.json", HERE / "CHANGELOG.md"
-SOURCES = ("crates", "crates.txt")
+PROGRAM = "hol_serve"
 FIRST = ROOT / "examples" / "first.jsonl"
 LAST_REPLIES = b'{"made":["thm REFL1 |- x = x"],"ok":true}\n{"items":[],"ok":true}\n'
 SHOWN = 8
@@ -38,13 +38,27 @@ def answers(program):
     return ran.returncode == 0 and ran.stdout.endswith(LAST_REPLIES)
 
 
+def sources():
+    """What the program is made from: the list of crates, and the folders of its own crate and of those below it."""
+    uses = {}
+    for line in (ROOT / "crates.txt").read_text(encoding="utf-8").splitlines():
+        name, colon, words = line.partition("#")[0].partition(":")
+        if colon:
+            uses[name.split()[0]] = words.split()
+    found, more = set(), {PROGRAM}
+    while more:
+        found |= more
+        more = {below for name in more for below in uses[name] if below in uses} - found
+    return ["crates.txt", *(f"crates/{name}/{part}" for name in sorted(found) for part in ("src", "specs", "proofs"))]
+
+
 def faults_of_sources(commit, kit):
     """Why a program that was built here can't be compared: sources that have changed since the commit, or another toolchain."""
     if not shutil.which("rt") or said_by("rt", "version") != kit:
         return f"the toolchain here isn't {kit}"
     if subprocess.run(["git", "cat-file", "-e", commit + "^{commit}"], cwd=ROOT, capture_output=True).returncode:
         return "this clone doesn't have the commit"
-    changed = subprocess.run(["git", "diff", "--quiet", commit, "--", *SOURCES], cwd=ROOT).returncode
+    changed = subprocess.run(["git", "diff", "--quiet", commit, "--", *sources()], cwd=ROOT).returncode
     return "the sources have changed since" if changed else None
 
 

@@ -8,7 +8,9 @@ import argparse
 import fcntl
 import json
 import os
+import pathlib
 import resource
+import shutil
 import signal
 import socket
 import subprocess
@@ -16,6 +18,8 @@ import sys
 import tempfile
 
 import watched
+
+HERE = pathlib.Path(__file__).resolve().parent
 
 LINES = br"""{"op":"new_theory","name":"A","at":0}
 {"op":"insert","theory":"A","at":0,"text":"g REFL1 `x:A = x`"}
@@ -86,6 +90,21 @@ def write_fails_after(program, room, lines=LINES):
         ran = subprocess.run([program], input=b"".join(lines), stdout=out, stderr=subprocess.PIPE, preexec_fn=limited, timeout=60)
         out.seek(0)
         return ran.returncode, out.read(), ran.stderr
+
+
+def taken_writes(program):
+    """All bytes before the first one that isn't taken are written where a write takes none, which is no error of the system's."""
+    compiler, whole = os.environ.get("CC") or "cc", b"".join(REPLIES)
+    if not shutil.which(compiler):
+        print(f"program: writes that take no byte aren't tried, since there is no C compiler {compiler}: set CC")
+        return
+    with tempfile.TemporaryDirectory() as folder:
+        library = f"{folder}/taking.so"
+        subprocess.run([compiler, "-O2", "-shared", "-fPIC", "-o", library, HERE / "taking.c"], check=True)
+        for room in range(0, len(whole), 7):
+            environment = {**os.environ, "LD_PRELOAD": library, "TAKING": str(room)}
+            ran = subprocess.run([program], input=b"".join(LINES), capture_output=True, env=environment, timeout=60)
+            yield f"a write that takes no byte after {room} bytes", (1, whole[:room], WRITE), (ran.returncode, ran.stdout, ran.stderr)
 
 
 def failed_writes(program):
@@ -323,7 +342,7 @@ def main():
     program = given.parse_args().program
     passed = failed = 0
     reads = failed_reads, one_byte_at_a_time, ends_within_a_line, replies_in_turn
-    for group in (*reads, failed_writes, signals, long_replies, unwaiting, missing, words, limited_memory):
+    for group in (*reads, failed_writes, taken_writes, signals, long_replies, unwaiting, missing, words, limited_memory):
         for name, want, found in group(program):
             passed, failed = passed + (want == found), failed + (want != found)
             if want != found:
