@@ -45,12 +45,15 @@ def fixes(finding: Finding, file: File, files: Sequence[File], every: Sequence[F
 
 
 def _ends(file: File, number: int) -> Iterator[Fix]:
-    """A proof that is never ended, ended behind its last command."""
+    """A proof that is never ended, ended behind its last command; by a qed, unless it is known that goals are left, which would refuse it."""
     last = next(last for first, last in names.blocks(file) if first == number)
+    entries = (file.entry(at) for at in range(last, number - 1, -1))
+    report = next((entry.report for entry in entries if entry and isinstance(entry.report, protocol.Goals)), None)
     place = behind(file, file.commands[last].end)
     missing = "" if file.lines.text[file.commands[last].end:place].strip() else ";;"
     for word, title in (("qed", "End the proof by qed"), ("oops", "Give the proof up by oops")):
-        yield Fix(title, place, place, "%s\n%s;;" % (missing, word))
+        if word == "oops" or report is None or not report.goals:
+            yield Fix(title, place, place, "%s\n%s;;" % (missing, word))
 
 
 def behind(file: File, place: int) -> int:

@@ -4,7 +4,7 @@ import unittest
 
 from holls.files import File
 from holls.lsp import helping
-from holls.protocol import Goals, Lost, Made, Refusal
+from holls.protocol import Goal, Goals, Lost, Made, Refusal
 from tests.test_findings import reports, taken
 
 
@@ -43,6 +43,10 @@ class Actions(unittest.TestCase):
     def test_a_proof_that_is_not_ended(self):
         self.assertEqual(fixed("g A `x = x`;;\ne REFL_TAC;;\n\n"), (
             ["End the proof by qed", "Give the proof up by oops"], "g A `x = x`;;\ne REFL_TAC;;\nqed;;\n\n"))
+        file = taken("g A `x = x`;;\ne ALL_TAC;;\n")
+        for entry in file.theory.entries:
+            entry.report = Goals((Goal((), (), "x = x"),))
+        self.assertEqual(_fixed(file, [file], 0)[0], ["Give the proof up by oops"])  # A qed would be refused.
         titles, text = fixed("g A `x = x`;;\ne REFL_TAC;;\ng B `x = x`;; oops;;", 1)
         self.assertEqual(titles, ["End the proof before by qed", "End the proof before by oops"])
         self.assertEqual(text, "g A `x = x`;;\ne REFL_TAC;;\noops;;\ng B `x = x`;; oops;;")

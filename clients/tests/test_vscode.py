@@ -48,7 +48,7 @@ class InVSCode(unittest.TestCase):
         self.assertTrue(found["hover"].startswith("```hol\nCONJ_TAC\n```\nOf `p /\\ q` leaves `p`, then `q`.\n\n```hol\ngoal 1 of 2"), found["hover"])
         self.assertEqual((found["symbols"], found["lenses"], found["completions"]), ([["A", 11]], 0, True))
         self.assertEqual(found["actions"], [
-            ["End the proof by qed", "\nqed;;"], ["Give the proof up by oops", "\noops;;"], ["Find a proof", "a search"], ["Simplify the goal", "a search"]])
+            ["Give the proof up by oops", "\noops;;"], ["Find a proof", "a search"], ["Simplify the goal", "a search"]])
         self.assertEqual((found["symbolOf"], found["references"], found["links"]), (["A"], 1, 0))
         self.assertEqual((found["signature"], [one[0] for one in found["searched"]]), ("MATCH_MP_TAC th", ["INFINITY_AX", "SELECT_AX"]))
         self.assertEqual((found["typed"], found["unknown"]), (["INFINITY_AX", "SELECT_AX", [13, 20, "∀"]], 0))
