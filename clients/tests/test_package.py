@@ -55,8 +55,8 @@ class Package(unittest.TestCase):
             with zipfile.ZipFile(folder / ran.stdout.decode().strip()) as wheel:
                 wheel.extractall(folder / "made")
                 inside = wheel.namelist()
-                record = wheel.read("hol_serve-0.1.0.dist-info/RECORD").decode().splitlines()
-                said = wheel.read("hol_serve-0.1.0.dist-info/METADATA").decode()
+                record = wheel.read("hol_serve-0.2.0.dist-info/RECORD").decode().splitlines()
+                said = wheel.read("hol_serve-0.2.0.dist-info/METADATA").decode()
             self.assertEqual([line.split(",")[0] for line in record], inside)
             self.assertEqual({one for one in inside if one.endswith(".py")},
                              {path.relative_to(CLIENTS).as_posix() for path in (CLIENTS / "holls").rglob("*.py")})
