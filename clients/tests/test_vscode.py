@@ -51,7 +51,7 @@ class InVSCode(unittest.TestCase):
             ["Give the proof up by oops", "\noops;;"], ["Find a proof", "a search"], ["Simplify the goal", "a search"]])
         self.assertEqual((found["symbolOf"], found["references"], found["links"]), (["A"], 1, 0))
         self.assertEqual((found["signature"], [one[0] for one in found["searched"]]), ("MATCH_MP_TAC th", ["INFINITY_AX", "SELECT_AX"]))
-        self.assertEqual((found["typed"], found["unknown"]), (["INFINITY_AX", "SELECT_AX", [13, 20, "∀"]], 0))
+        self.assertEqual((found["typed"], found["settled"]), (["INFINITY_AX", "SELECT_AX", [13, 20, "∀"]], True))
         self.assertIn("The bridge holls doesn't run", found["shown"][0])
         self.assertEqual(found["opened"], ["file:///A.hol"])
 

@@ -133,6 +133,7 @@ async function run() {
   file.text = 'g A `p /\\and \\forall ';
   for (const at of [12, 20]) events.change({ document: file, contentChanges: [{ range: new Range(0, at, 0, at), text: ' ' }] });
   await until(() => results.unknown === 0);
+  results.settled = true; // Later another bridge begins, of which all is unknown at first.
   results.typed = typed;
   results.opened = [...found.keys()];
   extension.deactivate();
