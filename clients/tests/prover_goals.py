@@ -17,7 +17,7 @@ from typing import Dict, Iterator, List, NamedTuple, Optional, Sequence, Tuple
 if __name__ == "__main__":
     sys.path.insert(0, str(pathlib.Path(__file__).resolve().parents[1]))
 
-from holls import check  # noqa: E402
+from holls import check, protocol  # noqa: E402
 from holls.files import File  # noqa: E402
 from holls.protocol import Error, Goals, Made  # noqa: E402
 from holls.prover import clock, reading, scope, typed  # noqa: E402
@@ -30,10 +30,8 @@ STORED = CLIENTS / "tests" / "goals" / "hol_light.tsv"
 KINDS = ("ARITH", "TAUT", "MESON", "SET", "SIMP", "REWRITE")
 WORDS = frozenset(("GSYM", "CONJUNCT1", "CONJUNCT2", "SPEC", "SPEC_ALL", "EQT_INTRO", "ARITH", "ETA_AX", "REFL_CLAUSE"))
 """Words in HOL Light's lists that name no theorem of a library."""
-SAMPLED = 6
-"""The sample has each goal of a kind whose place is a multiple of this."""
-SECONDS, SHORT_SECONDS = 5.0, 2.0
-"""So long a search may take; and where all goals are searched."""
+SECONDS = 2.0
+"""So long a search may take, by the processor's time; users wait for five."""
 
 
 class Share(NamedTuple):
@@ -44,8 +42,8 @@ class Share(NamedTuple):
     least: float
 
 
-SHARES = (Share("ARITH", False, 0.95), Share("TAUT", False, 0.95), Share("MESON", True, 0.85), Share("MESON", False, 0.6), Share("SET", False, 0.8),
-          Share("SIMP", True, 0.7), Share("REWRITE", True, 0.7))
+SHARES = (Share("ARITH", False, 0.95), Share("TAUT", False, 0.95), Share("MESON", True, 0.85), Share("MESON", False, 0.6),
+          Share("SET", False, 0.8), Share("SIMP", True, 0.7), Share("REWRITE", True, 0.7))
 MIDDLE_SECONDS, LATE_SECONDS = 0.3, 2.0
 """In so many seconds half of all that are found are found, and 95 %."""
 
@@ -66,20 +64,40 @@ class Result(NamedTuple):
     seconds: float
 
 
-def stored(kinds: Sequence[str] = KINDS, is_all: bool = True) -> List[Stated]:
-    """The goals of some kinds, or a sample of them."""
+def stored(kinds: Sequence[str] = KINDS) -> List[Stated]:
+    """The goals of some kinds."""
     found: Dict[str, List[Stated]] = {kind: [] for kind in KINDS}
     for line in STORED.read_text(encoding="utf-8").splitlines():
         if not line.startswith("#"):
             kind, _, _, named, text = line.split("\t")
             found[kind].append(Stated(kind, named.split(), text))
-    return [goal for kind in kinds for goal in found[kind][::1 if is_all else SAMPLED]]
+    return [goal for kind in kinds for goal in found[kind]]
 
 
 @functools.lru_cache(1)
 def theories() -> List[File]:
     """The library's files, each behind those that it imports. Nobody changes them."""
     return [file for found in check.ordered([str(ROOT / "theories")]).values() for file in found]
+
+
+class Watched(Asker):
+    """A server whose processor time is counted as it answers."""
+
+    counted = 0.0
+    """What all of them have had."""
+    _seen = 0.0
+
+    def _answer(self, until: Optional[float]) -> protocol.Reply:
+        try:
+            return super()._answer(until)
+        finally:
+            before, self._seen = self._seen, self.processor_seconds()
+            Watched.counted += max(0.0, self._seen - before)
+
+
+def spent() -> float:
+    """The searches' clock: the processor's time of this process and of its servers, which other work doesn't change."""
+    return time.process_time() + Watched.counted
 
 
 class Library:
@@ -89,7 +107,7 @@ class Library:
     """So long a search may take."""
 
     def __init__(self) -> None:
-        self.asker = Asker([str(BUILT)], 120.0)
+        self.asker = Watched([str(BUILT)], 120.0)
         self.scope = scope.Scope()
         every = theories()
         for file in every:
@@ -97,7 +115,7 @@ class Library:
             self.scope.add_file(file)
         self.asker.copy(["import " + file.name for file in every])
         self.count = self.asker.count
-        Knowledge(self.scope)
+        self.known = Knowledge(self.scope)
         self._cores = {name: _core(said) for name, said in self.scope.theorems.items()}
 
     def stop(self) -> None:
@@ -112,14 +130,12 @@ class Library:
             return False
         return self.asker.count == self.count and [type(one) for one in replies] == [Made, Error]
 
-    def spent(self) -> float:
-        """The searches' clock; with the program's time where it is the processor's."""
-        return clock.now() + (self.asker.processor_seconds() if clock.is_processor() else 0.0)
-
-    def withheld(self, term: typed.Term) -> scope.Scope:
-        """What stands, but for what says what a goal says, or its equation turned round."""
+    def withheld(self, term: typed.Term) -> Knowledge:
+        """What is known where nothing stands that says what a goal says, or its equation turned round."""
         wanted = _core(term)
-        return self.scope.without(frozenset(name for name, core in self._cores.items() if core == wanted))
+        either = (wanted, _core(_turned(wanted)))
+        names = frozenset(name for name, core in self._cores.items() if core in either)
+        return Knowledge(self.scope.without(names)) if names else self.known
 
     def has_named(self, goal: Stated) -> bool:
         """Whether each theorem that a goal's step names stands here."""
@@ -128,18 +144,18 @@ class Library:
     def prove(self, goal: Stated, is_named: bool, seconds: Optional[float] = None) -> Result:
         """Searches a proof of a goal, by the theorems that are named where that is said."""
         term = reading.term(goal.text, self.scope.signature, ty=typed.BOOL)
-        standing = self.withheld(term)
+        known = self.withheld(term)
         report = self.asker.step("g GOAL `%s`" % goal.text)
         assert isinstance(report, Goals), goal.text
-        named = [name for name in goal.named if name in standing.theorems]
-        known = Knowledge(standing)
-        begun = self.spent()
-        found = Finder(self.asker, standing, report, goal.text, clock.now() + (seconds or self.seconds), known).find(named if is_named and named else None)
+        named = [name for name in goal.named if name in known.scope.theorems]
+        begun = clock.now()
+        finder = Finder(self.asker, known.scope, report, goal.text, clock.now() + (seconds or self.seconds), known)
+        found = finder.find(named if is_named and named else None)
         if found:
             for step in found:
                 self.asker.step(step)
             assert isinstance(self.asker.step("qed"), Made), (goal.text, found)
-        taken = self.spent() - begun
+        taken = clock.now() - begun
         self.asker.back(self.count)
         return Result(goal, found, taken)
 
@@ -173,6 +189,12 @@ def _core(term: typed.Term) -> typed.Term:
     return _renamed(term, names)
 
 
+def _turned(term: typed.Term) -> typed.Term:
+    """An equation turned round; any other formula as it is."""
+    sides = typed.binary(term)
+    return typed.mk_eq(sides[2], sides[1]) if sides and sides[0] in ("=", "<=>") else term
+
+
 def _renamed(term: typed.Term, names: Dict[str, str]) -> typed.Term:
     if term[0] == "a":
         return ("a", _renamed(term[1], names), _renamed(term[2], names))
@@ -201,7 +223,7 @@ LIBRARY: List[Library] = []
 
 def begin(seconds: float) -> None:
     """Has the library stand in a process, in which a search has so many seconds."""
-    clock.use(time.process_time)
+    clock.use(spent)
     LIBRARY.append(Library())
     LIBRARY[0].seconds = seconds
 
@@ -239,7 +261,7 @@ def main() -> int:
     parser.add_argument("--missed", action="store_true", help="writes what isn't found")
     parser.add_argument("--steps", action="store_true", help="writes what is found")
     parser.add_argument("--jobs", type=int, default=os.cpu_count() or 1, help="so many processes")
-    parser.add_argument("--seconds", type=float, default=SHORT_SECONDS, help="so long a search may take (%g)" % SHORT_SECONDS)
+    parser.add_argument("--seconds", type=float, default=SECONDS, help="so long a search may take (%g)" % SECONDS)
     given = parser.parse_args()
     shares = [at for at, one in enumerate(SHARES) if (not given.kinds or one.kind in given.kinds) and not (given.unnamed if one.is_named else given.named)]
     results: Dict[int, List[Result]] = {at: [] for at in shares}

@@ -10,8 +10,14 @@ from holls.prover.asking import Silent
 from holls.prover.finder import Finder
 from holls.prover.polynomials import total
 from holls.prover.shown import Shown
-from tests import prover_goals
+from tests import prover_goals, random_numbers
 from tests.helpers import BUILT
+
+SAMPLED = 4
+"""Each so many-th goal of a kind is searched."""
+MIDDLE, LATE = 0.75, 1.5
+"""Half of what is found is found in this part of the time that a search may take, and nearly all of it, with its `qed`, in that, whatever else the machine does.
+(prover_goals.py has narrower bounds.)"""
 
 
 def chain(number):
@@ -103,7 +109,7 @@ class Models(unittest.TestCase):
 @unittest.skipUnless(BUILT.exists(), "hol_serve isn't built")
 class OverTheLibrary(unittest.TestCase):
     def setUp(self):
-        clock.use(time.process_time)
+        clock.use(prover_goals.spent)
         self.addCleanup(clock.use, time.monotonic)
         self.library = prover_goals.shared()
 
@@ -111,35 +117,40 @@ class OverTheLibrary(unittest.TestCase):
         """The steps for a goal, which the program has accepted."""
         return self.library.prove(prover_goals.Stated("", [], text), False, seconds)
 
-    def shares(self, kind, is_named, least, every=prover_goals.SAMPLED):
-        """That at least a share of a kind's sample is found, half of it in some seconds of the processor, the program's with them: several times what it
-        takes where nothing else is at work. (prover_goals.py tells it of the whole list.)"""
-        goals = [goal for goal in prover_goals.stored([kind])[::every] if not is_named or self.library.has_named(goal)]
-        results = [self.library.prove(goal, is_named) for goal in goals]
-        missed = "\n".join(one.goal.text for one in results if not one.steps)
-        self.assertGreaterEqual(sum(bool(one.steps) for one in results), least * len(results), missed)
-        self.assertLess(prover_goals.times(results)[0], 4.0)
+    def searched(self, kind, is_named=False, seconds=5.0):
+        """That of a sample of a kind's goals the share is found that is wanted, half of it soon. (prover_goals.py searches them all.)"""
+        share = next(one for one in prover_goals.SHARES if (one.kind, one.is_named) == (kind, is_named))
+        goals = [goal for goal in prover_goals.stored([kind])[::SAMPLED] if not is_named or self.library.has_named(goal)]
+        results = [self.library.prove(goal, is_named, seconds) for goal in goals]
+        told = prover_goals.of_share(share, results) + "".join("\n" + one.goal.text for one in results if not one.steps)
+        self.assertGreaterEqual(sum(bool(one.steps) for one in results), share.least * len(results), told)
+        middle, late = prover_goals.times(results)
+        self.assertLess(middle, MIDDLE * seconds, told)
+        self.assertLess(late, LATE * seconds, told)
+
+    def test_the_list_has_five_hundred_goals(self):
+        self.assertGreaterEqual(len(prover_goals.stored(("ARITH", "MESON", "SET", "SIMP"))), 500)
 
     def test_arithmetic(self):
-        self.shares("ARITH", False, 0.95)
+        self.searched("ARITH")
 
     def test_tautologies(self):
-        self.shares("TAUT", False, 0.95)
+        self.searched("TAUT")
 
     def test_logic_with_what_is_named(self):
-        self.shares("MESON", True, 0.85)
+        self.searched("MESON", True)
 
     def test_logic_with_nothing_named(self):
-        self.shares("MESON", False, 0.6)
+        self.searched("MESON")
 
     def test_sets(self):
-        self.shares("SET", False, 0.8)
+        self.searched("SET")
 
     def test_simplifying_with_what_is_named(self):
-        self.shares("SIMP", True, 0.7, 2)
+        self.searched("SIMP", True)
 
     def test_rewriting_with_what_is_named(self):
-        self.shares("REWRITE", True, 0.7)
+        self.searched("REWRITE", True)
 
     def test_sums_of_forty_parts_and_products(self):
         found = self.found(chain(40))
@@ -165,6 +176,19 @@ class OverTheLibrary(unittest.TestCase):
             finder = Finder(self.library.asker, self.library.scope, report, text, clock.now() + 5.0)
             self.assertIsNone(finder.find(None), text)
             self.assertEqual(finder.counterexample, wanted)
+            self.library.asker.back(self.library.count)
+
+    def test_random_false_goals_end_soon_with_values(self):
+        chance = random.Random(90)
+        for _ in range(60):
+            formula = random_numbers.false_formula(chance)
+            text = random_numbers.text(formula)
+            report = self.library.asker.step("g GOAL `%s`" % text)
+            begun = clock.now()
+            finder = Finder(self.library.asker, self.library.scope, report, text, clock.now() + 5.0, self.library.known)
+            self.assertIsNone(finder.find(None), text)
+            self.assertLess(clock.now() - begun, 2.0, text)
+            self.assertIs(random_numbers.value(formula, finder.counterexample), False, text)
             self.library.asker.back(self.library.count)
 
     def test_values_are_only_of_what_can_be_evaluated(self):

@@ -116,7 +116,7 @@ class Theorems(unittest.TestCase):
 @unittest.skipUnless(BUILT.exists(), "hol_serve isn't built")
 class OverTheLibrary(unittest.TestCase):
     def setUp(self):
-        clock.use(time.process_time)
+        clock.use(prover_goals.spent)
         self.addCleanup(clock.use, time.monotonic)
         self.library = prover_goals.shared()
 

@@ -17,8 +17,3 @@ def use(source: Callable[[], float]) -> None:
     """Takes another clock, for all searches of this process."""
     global _source
     _source = source
-
-
-def is_processor() -> bool:
-    """Whether the clock is the time of this process's processor."""
-    return _source is time.process_time
