@@ -159,7 +159,7 @@ class Row:
 
 def readable(statement):
     """Our statement as HOL Light reads it, but for the names of constants."""
-    return spaced(statement, TYPES)
+    return re.sub(r"(?<![\w'])_1(?![\w'])", "( BIT1 _0 )", spaced(statement, TYPES))
 
 
 def script(theories):
