@@ -5,6 +5,7 @@ import pathlib
 import pty
 import re
 import select
+import signal
 import subprocess
 import tempfile
 import time
@@ -230,10 +231,24 @@ class AsAProgram(unittest.TestCase):
         self.until(terminal, "thm B |- b\r\n# ")
         os.write(terminal, b"\x04")
         self.until(terminal, "not saved yet")
+        # (the terminal takes the end of input for itself where the prompt doesn't read yet)
+        self.until(terminal, "# ")
         os.write(terminal, b"\x04")
-        status = os.waitpid(pid, 0)[1]
+        status = self.ended(pid)
         self.assertEqual(os.waitstatus_to_exitcode(status) if hasattr(os, "waitstatus_to_exitcode") else status >> 8, 0)
         self.assertTrue((self.folder / "state" / "holls" / "history").exists())
+
+    def ended(self, pid):
+        """The status of a process, which has to end soon."""
+        begun = time.monotonic()
+        while time.monotonic() - begun < PATIENT:
+            done, status = os.waitpid(pid, os.WNOHANG)
+            if done:
+                return status
+            time.sleep(0.05)
+        os.kill(pid, signal.SIGKILL)
+        os.waitpid(pid, 0)
+        self.fail(f"the prompt doesn't end: {self.shown!r}")
 
     def until(self, terminal, text):
         """Reads until the terminal shows a text."""
