@@ -1,1 +1,0 @@
-"""Theories that go to HOL Light, and theorems that come from it."""

@@ -1,1 +1,0 @@
-"""`holls serve`: the page for a class (docs/SERVE.md)."""

@@ -1,2 +1,0 @@
-" Files of hol-serve's commands.
-autocmd BufRead,BufNewFile *.hol setfiletype hol

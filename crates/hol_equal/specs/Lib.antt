@@ -1,5 +1,0 @@
-pub mod Rules
-pub mod Refusals
-pub mod Applied
-pub mod Unrefused
-pub mod Hypotheses

@@ -1,6 +1,0 @@
-//! Commands that make types, constants, axioms and definitions.
-
-mod defining;
-mod made;
-
-pub(crate) use made::making;

@@ -1,3 +1,0 @@
-pub mod NameParts
-pub mod NamePlaces
-pub mod Testing

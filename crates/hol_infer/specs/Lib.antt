@@ -1,4 +1,0 @@
-pub mod Reading
-pub mod Resolving
-pub mod NamesView
-pub mod Standing

@@ -1,5 +1,0 @@
-use Rattle.hol_library_tests.proofs.names_tests.declare.Goals as goal
-use Rattle.hol_library_tests.proofs.Declared.{constant_follows}
-
-pub add-requires : goal.add-requires
-add-requires c = λ none. constant_follows c.args.env.now c.in_ok-empty.field-0 c.in_ok-name.name c.in_ok-bool_type.field-0 (c.in_ok-key.key, c.in_ok-key.value) c.in_ok-empty.ensures c.in_ok-key.ensures

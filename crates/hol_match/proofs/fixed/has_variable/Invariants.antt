@@ -1,6 +1,0 @@
-use Rattle.std.proofs.Common.{◌≡◌, drop}
-use Rattle.hol_terms.specs.Scoped.{binds}
-use Rattle.hol_match.proofs.fixed.has_variable.Given as goal
-
-abbrev pub invariant-loop-u : goal.invariant-loop-u
-invariant-loop-u l = binds l.variables l.v ≡ binds (drop l.u-index l.variables) l.v

@@ -1,4 +1,0 @@
-pub mod Laws
-pub mod Steps
-pub mod Raising
-pub mod Walk

@@ -1,6 +1,0 @@
-pub mod RuleTheorems
-pub mod Known
-pub mod Instances
-pub mod GivenHyps
-pub mod Nodes
-pub mod Reductions

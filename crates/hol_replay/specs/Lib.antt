@@ -1,6 +1,0 @@
-pub mod RuleTheorems
-pub mod RuleSteps
-pub mod Replays
-pub mod NodeTheorems
-pub mod Parts
-pub mod Equations

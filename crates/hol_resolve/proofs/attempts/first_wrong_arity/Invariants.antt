@@ -1,7 +1,0 @@
-use Rattle.std.proofs.Common.{◌≡◌, drop}
-use Rattle.hol_resolve.specs.Readings.{has_wrong_arity, first_with}
-use Rattle.hol_resolve.specs.ReadingView.{attempts_value}
-use Rattle.hol_resolve.proofs.attempts.first_wrong_arity.Given as goal
-
-abbrev pub invariant-loop-attempt : goal.invariant-loop-attempt
-invariant-loop-attempt l = first_with has_wrong_arity (attempts_value l.attempts) ≡ first_with has_wrong_arity (attempts_value (drop l.attempt-index l.attempts))

@@ -1,2 +1,0 @@
-pub mod Registering
-pub mod Once

@@ -1,4 +1,0 @@
-pub mod Settings
-pub mod WordsEnding
-pub mod Begun
-pub mod BegunView

@@ -1,4 +1,0 @@
-pub mod StackValue
-pub mod Codes
-pub mod Calls
-pub mod Sound

@@ -1,8 +1,0 @@
-use Rattle.std.proofs.Common.{subst}
-use Rattle.std.proofs.lemmas.Result.{IfOk-weaker}
-use Rattle.hol_kernel.specs.Given.{Given}
-use Rattle.hol_just.specs.Justifies.{ClosesByGiven}
-use Rattle.hol_steps.proofs.pieces.accepting.Goals as goal
-
-pub returns : goal.returns
-returns c = IfOk-weaker c.accept_tac-just.result _ _ (λ just made. subst (λ (th : Given). ClosesByGiven th just) c.in_ok-given.ensures made) c.accept_tac-just.ensures

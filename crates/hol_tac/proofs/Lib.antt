@@ -1,9 +1,0 @@
-pub mod Justified
-pub mod Valid
-pub mod ApplicationLaws
-pub mod QuantifierLaws
-pub mod AssumptionLaws
-pub mod ChoosingLaws
-pub mod Generalizing
-pub mod StripLaws
-pub mod GivenTo

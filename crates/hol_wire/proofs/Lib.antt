@@ -1,4 +1,0 @@
-pub mod Literals
-pub mod Floats
-pub mod Said
-pub mod Apart

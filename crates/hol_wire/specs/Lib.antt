@@ -1,6 +1,0 @@
-pub mod Requests
-pub mod Replies
-pub mod ReplyBytes
-pub mod Texts
-pub mod Views
-pub mod Apart
