@@ -1,0 +1,4 @@
+pub mod Pieces
+pub mod Fold
+pub mod Text
+pub mod OneReading
