@@ -1,9 +1,8 @@
 -- The names that have to differ, in a list of steps.
-use Rattle.std.proofs.Common.{◌≡◌, ◌≤◌, ◌<◌, ◌+◌, ◌⊎◌, inl, inr, Bool, true, false, ◌||◌, ℕ, suc, List, [], ◌∷◌, ◌++◌, length, refl, ap, ◌∙◌, sym, subst, arith, append_assoc}
+use Rattle.std.proofs.Common.{◌≡◌, ◌≤◌, ◌<◌, ◌+◌, ◌⊎◌, inl, inr, Bool, true, false, ◌||◌, ◌&&◌, ℕ, suc, List, [], ◌∷◌, ◌++◌, length, refl, ap, ◌∙◌, sym, subst, arith, append_assoc}
 use Rattle.std.proofs.lemmas.List.{append-nil}
 use Rattle.std.specs.Prelude.{bytes_eq}
 use Rattle.hol_notation_tokens.specs.Token.{is_among}
-use Rattle.hol_notation_tokens.specs.Lexeme.{Lexeme}
 use Rattle.hol_notation_grammar.specs.Grammar.{StepText, choose, take, named, add_if, AreNew}
 
 abbrev Names : Type 0
@@ -46,7 +45,7 @@ Apart low high (x ∷ xs) = ((length x ≤ low) ⊎ (high ≤ length x)) × Apar
 
 apart_less : (low high less : ℕ) (xs : Names) → less ≤ high → Apart low high xs → Apart low less xs
 apart_less low high less [] h a = tt
-apart_less low high less (x ∷ xs) h a = (elim a.0 [ | inl l ↦ inl l | inr g ↦ inr (omega (arith, h, g)) ], apart_less low high less xs h a.1)
+apart_less low high less (x ∷ xs) h a = (elim a.0 [ inl l ↦ inl l | inr g ↦ inr (omega (arith, h, g)) ], apart_less low high less xs h a.1)
 
 apart_more : (low high : ℕ) (xs : Names) (y : List ℕ) → high ≤ length y → Apart low high xs → Apart low high (xs ++ y ∷ [])
 apart_more low high [] y h a = (inr h, tt)
@@ -54,7 +53,7 @@ apart_more low high (x ∷ xs) y h a = (a.0, apart_more low high xs y h a.1)
 
 apart_wider : (low lower high : ℕ) (xs : Names) → lower ≤ low → Apart lower high xs → Apart low high xs
 apart_wider low lower high [] h a = tt
-apart_wider low lower high (x ∷ xs) h a = (elim a.0 [ | inl l ↦ inl (omega (arith, h, l)) | inr g ↦ inr g ], apart_wider low lower high xs h a.1)
+apart_wider low lower high (x ∷ xs) h a = (elim a.0 [ inl l ↦ inl (omega (arith, h, l)) | inr g ↦ inr g ], apart_wider low lower high xs h a.1)
 
 abbrev pub total : Names → ℕ
 total [] = 0
@@ -78,7 +77,7 @@ other_length (x ∷ xs) (y ∷ ys) h = both _ _ (other_length xs ys (λ e. h (ap
 not_among : (low high : ℕ) (xs : Names) (y : List ℕ) → Apart low high xs → low < length y → length y < high → is_among xs y ≡ false
 not_among low high [] y a l g = refl
 not_among low high (x ∷ xs) y a l g =
-    neither _ _ (other_length y x (λ e. elim a.0 [ | inl m ↦ absurd (omega (arith, e, m, l)) | inr m ↦ absurd (omega (arith, e, m, g)) ])) (not_among low high xs y a.1 l g)
+    neither _ _ (other_length y x (λ e. elim a.0 [ inl m ↦ absurd (omega (arith, e, m, l)) | inr m ↦ absurd (omega (arith, e, m, g)) ])) (not_among low high xs y a.1 l g)
   where
     neither : (a b : Bool) → a ≡ false → b ≡ false → (a || b) ≡ false
     neither true b e f = e
@@ -86,9 +85,10 @@ not_among low high (x ∷ xs) y a l g =
 
 falling_new : (low high : ℕ) (before xs : Names) → Apart low high before → Falling low high xs → AreNew before xs
 falling_new low high before [] a f = tt
-falling_new low high before (x ∷ xs) a f =
-    (not_among low high before x a f.0.0 f.0.1,
-    falling_new low (length x) (before ++ x ∷ []) xs (apart_more low (length x) before x (omega arith) (apart_less low high (length x) before (omega (arith, f.0.1)) a)) f.1)
+falling_new low high before (x ∷ xs) a f = (
+  not_among low high before x a f.0.0 f.0.1,
+  falling_new low (length x) (before ++ x ∷ []) xs (apart_more low (length x) before x (omega arith) (apart_less low high (length x) before (omega (arith, f.0.1)) a)) f.1,
+)
 
 -- longer names are new after names that are new
 pub falling_join : (before xs : Names) (high : ℕ) → AreNew [] before → Falling (total before) high xs → AreNew [] (before ++ xs)

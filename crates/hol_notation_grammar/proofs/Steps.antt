@@ -29,6 +29,10 @@ pub ok_map : {A E : Type 0} (P Q : Type 0) (r : Result A E) → (P → Q) → If
 ok_map P Q (Ok x) f h = f h
 ok_map P Q (Err e) f h = h
 
+pub ok_each : {A E : Type 0} (P Q : A → Type 0) (r : Result A E) → ((x : A) → P x → Q x) → IfOk r P → IfOk r Q
+ok_each P Q (Ok x) f h = f x h
+ok_each P Q (Err e) f h = h
+
 -- the list with its last element on top
 pub popped : (xs ys : List Symbol) (s : Symbol) → xs ≡ ys ++ s ∷ [] → reverse xs ≡ s ∷ reverse ys
 popped xs ys s e = ap (λ (l : List Symbol). reverse l) e ∙ reverse-append ys (s ∷ [])
@@ -158,6 +162,12 @@ not_new x c todo todo_ todo__ events events_ events__ names names_ names__ t h n
     let e = ap named d.says ∙ named_join events_ (all_steps d.written) ∙ ap (λ (l : List (List ℕ)). l ++ named (all_steps d.written)) (t.0 ∙ ap (λ (l : List (List ℕ)). l ++ add_if _ x.text []) (sym r.same)) in
     h (new_back [] names (add_if _ x.text []) (new_front [] (names ++ add_if _ x.text []) (named (all_steps d.written)) (subst (AreNew []) e new)))
 
+-- by whether it is new
+pub goes_or_not : (x : Lexeme) (c : Class) (todo todo_ : List Symbol) (events events_ : List StepText) (names names_ : List (List ℕ)) (new : Bool) → Takes language x c Any todo events todo_ events_
+    → Notes names c x new names_ → GoesOn language x todo events names new todo_ events_ names_
+goes_or_not x c todo todo_ events events_ names names_ true t h = goes_on x c todo todo_ events events_ names names_ t h
+goes_or_not x c todo todo_ events events_ names names_ false t h = not_new x c todo todo_ todo_ events events_ events_ names names_ names_ t h
+
 pub no_text : (x : Lexeme) (todo todo_ : List Symbol) (events events_ : List StepText) (names names_ : List (List ℕ)) → ((n : Rule) (front : List Lexeme) → Path language n front todo events Any → Halts language n front (Some x))
     → GoesOn language x todo events names false todo_ events_ names_
 no_text x todo todo_ events events_ names names_ h n front r written more s new nx w = h n front r.path written more s nx w
@@ -178,3 +188,11 @@ omits_some k todo todo_ events events_ o s e h = subst (λ (p : Option Symbol). 
 
 pub omits_none : (k : Option Sort) (todo todo_ : List Symbol) (events events_ : List StepText) (o : Option Symbol) → o ≡ None → Omits language k todo events o todo_ events_ → Keeps language k todo events [] events_
 omits_none k todo todo_ events events_ o e h = subst (λ (p : Option Symbol). Omits language k todo events p todo_ events_) e h
+
+pub accepted : (x : Lexeme) (todo todo_ : List Symbol) (events events_ : List StepText) (o : Option Class) (c : Class) → o ≡ Some c → Accepts language x todo events o todo_ events_
+    → Takes language x c Any todo events todo_ events_
+accepted x todo todo_ events events_ o c e h = subst (λ (p : Option Class). Accepts language x todo events p todo_ events_) e h
+
+pub not_accepted : (x : Lexeme) (todo todo_ : List Symbol) (events events_ : List StepText) (names names_ : List (List ℕ)) (o : Option Class) → o ≡ None → Accepts language x todo events o todo_ events_
+    → GoesOn language x todo events names false todo_ events_ names_
+not_accepted x todo todo_ events events_ names names_ o e h = no_text x todo todo_ events events_ names names_ (subst (λ (p : Option Class). Accepts language x todo events p todo_ events_) e h)

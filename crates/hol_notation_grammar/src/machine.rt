@@ -206,11 +206,7 @@ fn is_among(names: &[&str], name: &str) -> bool
 }
 
 // Notes the word, where it is of a class of names that have to differ; answers whether it is none of those before it.
-fn note<'t>(
-    names: &mut Vec<&'t str>,
-    class: Class,
-    word: &Word<'t>,
-) -> Result<bool, AllocError>
+fn note<'t>(names: &mut Vec<&'t str>, class: Class, word: &Word<'t>) -> Result<bool, AllocError>
     ensures { IfOk result (λ new. Notes (name_texts names.old.items) class (seen word.now) new (name_texts names.new.items)) }
 {
     if !class.binds() {

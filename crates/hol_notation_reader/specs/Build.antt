@@ -44,13 +44,13 @@ operator_of token.Exists = operator.Exists
 operator_of token.ExistsUnique = operator.ExistsUnique
 operator_of _ = operator.Choice
 
-abbrev pub infix : Operator → TermText → TermText → TermText
-infix c l r = text.Applied (text.Applied (text.Constant c) l) r
+abbrev pub infix_term : Operator → TermText → TermText → TermText
+infix_term c l r = text.Applied (text.Applied (text.Constant c) l) r
 
 -- a term, and behind it an infix, if there is one
 abbrev pub maybe_infix : Operator → TermText → Option TermText → TermText
 maybe_infix c l None = l
-maybe_infix c l (Some r) = infix c l r
+maybe_infix c l (Some r) = infix_term c l r
 
 abbrev pub side : Operator → Option TermText → List SideText
 side c None = []
@@ -59,7 +59,7 @@ side c (Some r) = record { operator = c; term = r } ∷ []
 -- infixes behind a term, the tightest first
 abbrev pub with_sides : TermText → List SideText → TermText
 with_sides t [] = t
-with_sides t (s ∷ ss) = with_sides (infix s.operator t s.term) ss
+with_sides t (s ∷ ss) = with_sides (infix_term s.operator t s.term) ss
 
 abbrev pub five_sides : Option TermText → Option TermText → Option TermText → Option TermText → Option TermText → List SideText
 five_sides e a o i f = side operator.Equals e ++ side operator.And a ++ side operator.Or o ++ side operator.Implies i ++ side operator.Iff f
@@ -79,7 +79,7 @@ bind_all k (v ∷ vs) b = bind k v (bind_all k vs b)
 
 abbrev pub applied : TermText → List TermText → TermText
 applied f [] = f
-applied f (a ∷ as) = applied (text.Applied f a) as
+applied f (a ∷ bs) = applied (text.Applied f a) bs
 
 abbrev pub typed : TermText → Option TypeText → TermText
 typed t None = t

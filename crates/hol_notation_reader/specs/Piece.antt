@@ -89,7 +89,7 @@ form (some_theorems ths) = of_theorems
 form (a_pair p) = of_pair
 form (some_pairs ps) = of_pairs
 form (an_argument a) = of_argument
-form (some_arguments as) = of_arguments
+form (some_arguments xs) = of_arguments
 form (a_call c) = of_call
 form (a_tactic t) = of_tactic
 form (maybe_tactic t) = of_maybe_tactic
@@ -287,7 +287,7 @@ the_argument (an_argument a) = a
 the_argument _ = Theorem (Cited [])
 
 abbrev pub arguments_in : PieceText → List ArgumentText
-arguments_in (some_arguments as) = as
+arguments_in (some_arguments xs) = xs
 arguments_in _ = []
 
 abbrev pub the_call : PieceText → CallText

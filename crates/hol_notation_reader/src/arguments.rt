@@ -6,17 +6,15 @@ ghost use Rattle.hol_notation_reader.specs.Piece.{AreOf};
 ghost use Rattle.hol_notation_reader.specs.Build.{reduced, call};
 ghost use Rattle.hol_notation_reader.specs.View.{pieces_of};
 
-use crate::piece::{Piece, pop_argument, pop_arguments, pop_quotation, pop_theorem, pop_theorems, pop_word, push};
-use crate::theorems::cited;
+use crate::piece::{
+    Piece, pop_argument, pop_arguments, pop_quotation, pop_theorem, pop_theorems, pop_word, push,
+};
+use crate::theorems::citation;
 use hol_notation_tactics::{TacArg, TacArgNode, TacCall};
 use std::alloc::{AllocError, Global};
 
 /// A call of a TAC; its arguments stand in reverse.
-pub(crate) fn call(
-    alloc: Global,
-    name: &str,
-    arguments: Vec<TacArg>,
-) -> Result<TacCall, AllocError>
+pub(crate) fn call(alloc: Global, name: &str, arguments: Vec<TacArg>) -> Result<TacCall, AllocError>
     ensures { IfOk result (λ tactic. tactic ≡ call name.now (reverse arguments.items)) }
 {
     let mut arguments = arguments;
@@ -25,7 +23,10 @@ pub(crate) fn call(
     Ok(TacCall { name, arguments })
 }
 
-pub(crate) fn no_tactic_argument(alloc: Global, pieces: &mut Vec<Piece<'_>>) -> Result<(), AllocError>
+pub(crate) fn no_tactic_argument(
+    alloc: Global,
+    pieces: &mut Vec<Piece<'_>>,
+) -> Result<(), AllocError>
     requires { AreOf (symbols NoTacticArgument) (pieces_of pieces.old.items) }
     ensures { IfOk result (λ _. pieces_of pieces.new.items ≡ reduced NoTacticArgument (pieces_of pieces.old.items)) }
 {
@@ -47,8 +48,11 @@ pub(crate) fn theorem_argument(alloc: Global, pieces: &mut Vec<Piece<'_>>) -> Re
     ensures { IfOk result (λ _. pieces_of pieces.new.items ≡ reduced TheoremArgument (pieces_of pieces.old.items)) }
 {
     let name = pop_word(pieces);
-    let theorem = cited(alloc, name.text)?;
-    push(pieces, Piece::Argument(TacArg::new(TacArgNode::Theorem(theorem))))
+    let theorem = citation(alloc, name.text)?;
+    push(
+        pieces,
+        Piece::Argument(TacArg::new(TacArgNode::Theorem(theorem))),
+    )
 }
 
 pub(crate) fn term_argument(pieces: &mut Vec<Piece<'_>>) -> Result<(), AllocError>
@@ -74,7 +78,10 @@ pub(crate) fn listed_argument(pieces: &mut Vec<Piece<'_>>) -> Result<(), AllocEr
     let _open = pop_word(pieces);
     let mut theorems = pop_theorems(pieces);
     theorems.reverse();
-    push(pieces, Piece::Argument(TacArg::new(TacArgNode::Theorems(theorems))))
+    push(
+        pieces,
+        Piece::Argument(TacArg::new(TacArgNode::Theorems(theorems))),
+    )
 }
 
 pub(crate) fn one_theorem(pieces: &mut Vec<Piece<'_>>) -> Result<(), AllocError>
@@ -83,7 +90,10 @@ pub(crate) fn one_theorem(pieces: &mut Vec<Piece<'_>>) -> Result<(), AllocError>
 {
     let theorem = pop_theorem(pieces);
     let _close = pop_word(pieces);
-    push(pieces, Piece::Argument(TacArg::new(TacArgNode::Theorem(theorem))))
+    push(
+        pieces,
+        Piece::Argument(TacArg::new(TacArgNode::Theorem(theorem))),
+    )
 }
 
 pub(crate) fn two_terms(pieces: &mut Vec<Piece<'_>>) -> Result<(), AllocError>
@@ -94,10 +104,16 @@ pub(crate) fn two_terms(pieces: &mut Vec<Piece<'_>>) -> Result<(), AllocError>
     let _comma = pop_word(pieces);
     let second = pop_quotation(pieces);
     let _close = pop_word(pieces);
-    push(pieces, Piece::Argument(TacArg::new(TacArgNode::Pair(first, second))))
+    push(
+        pieces,
+        Piece::Argument(TacArg::new(TacArgNode::Pair(first, second))),
+    )
 }
 
-pub(crate) fn named_theorem_tactic(alloc: Global, pieces: &mut Vec<Piece<'_>>) -> Result<(), AllocError>
+pub(crate) fn named_theorem_tactic(
+    alloc: Global,
+    pieces: &mut Vec<Piece<'_>>,
+) -> Result<(), AllocError>
     requires { AreOf (symbols NamedTheoremTactic) (pieces_of pieces.old.items) }
     ensures { IfOk result (λ _. pieces_of pieces.new.items ≡ reduced NamedTheoremTactic (pieces_of pieces.old.items)) }
 {
@@ -106,7 +122,10 @@ pub(crate) fn named_theorem_tactic(alloc: Global, pieces: &mut Vec<Piece<'_>>) -
     push(pieces, Piece::Call(tactic))
 }
 
-pub(crate) fn bracketed_theorem_tactic(alloc: Global, pieces: &mut Vec<Piece<'_>>) -> Result<(), AllocError>
+pub(crate) fn bracketed_theorem_tactic(
+    alloc: Global,
+    pieces: &mut Vec<Piece<'_>>,
+) -> Result<(), AllocError>
     requires { AreOf (symbols BracketedTheoremTactic) (pieces_of pieces.old.items) }
     ensures { IfOk result (λ _. pieces_of pieces.new.items ≡ reduced BracketedTheoremTactic (pieces_of pieces.old.items)) }
 {

@@ -41,7 +41,9 @@ pub(crate) fn reduce(
         Production::ThenOne => tactics::then_one(pieces),
         Production::ThenEach => tactics::then_each(pieces),
         Production::Called => tactics::called(alloc, pieces),
-        Production::BracketedTactic | Production::BracketedAtom => tactics::bracketed_tactic(pieces),
+        Production::BracketedTactic | Production::BracketedAtom => tactics::bracketed_tactic(
+            pieces,
+        ),
         Production::EveryTactic => tactics::every_tactic(alloc, pieces),
         Production::FirstTactic => tactics::first_tactic(alloc, pieces),
         Production::RepeatTactic => tactics::repeat_tactic(alloc, pieces),
@@ -105,8 +107,16 @@ pub(crate) fn reduce(
         Production::NoPostfix => types::no_postfix(alloc, pieces),
         Production::PostfixName => types::postfix_name(pieces),
         Production::IffFirst => terms::iff_first(alloc, pieces),
-        Production::NoIff | Production::NoImplies | Production::NoOr | Production::NoAnd | Production::NoEquals => terms::no_iff(pieces),
-        Production::MoreIff | Production::MoreImplies | Production::MoreOr | Production::MoreAnd | Production::MoreEquals => terms::more_iff(pieces),
+        Production::NoIff
+        | Production::NoImplies
+        | Production::NoOr
+        | Production::NoAnd
+        | Production::NoEquals => terms::no_iff(pieces),
+        Production::MoreIff
+        | Production::MoreImplies
+        | Production::MoreOr
+        | Production::MoreAnd
+        | Production::MoreEquals => terms::more_iff(pieces),
         Production::ImpliesFirst => terms::implies_first(alloc, pieces),
         Production::OrFirst => terms::or_first(alloc, pieces),
         Production::AndFirst => terms::and_first(alloc, pieces),

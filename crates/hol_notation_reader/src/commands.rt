@@ -11,7 +11,9 @@ ghost use Rattle.hol_notation_reader.specs.Piece.{IsFirst, of_word, a_command, t
 ghost use Rattle.std.specs.Prelude.{drop, string_bytes};
 ghost use Rattle.hol_notation_reader.specs.View.{pieces_of};
 
-use crate::piece::{Piece, pop_definition, pop_quotation, pop_tactic, pop_type_quotation, pop_word, push};
+use crate::piece::{
+    Piece, pop_definition, pop_quotation, pop_tactic, pop_type_quotation, pop_word, push,
+};
 use hol_notation_commands::{
     Command, CommandNode, DirectCommand, LocalCommand, Making, TypeDefinition,
 };
@@ -30,13 +32,19 @@ fn pop_name(alloc: Global, pieces: &mut Vec<Piece<'_>>) -> Result<String, AllocE
 fn push_local(pieces: &mut Vec<Piece<'_>>, command: LocalCommand) -> Result<(), AllocError>
     ensures { IfOk result (λ _. pieces_of pieces.new.items ≡ a_command (Local (local_text command)) ∷ pieces_of pieces.old.items) }
 {
-    push(pieces, Piece::Command(Command::new(CommandNode::Local(command))))
+    push(
+        pieces,
+        Piece::Command(Command::new(CommandNode::Local(command))),
+    )
 }
 
 fn push_direct(pieces: &mut Vec<Piece<'_>>, command: DirectCommand) -> Result<(), AllocError>
     ensures { IfOk result (λ _. pieces_of pieces.new.items ≡ a_command (Direct (direct_text command)) ∷ pieces_of pieces.old.items) }
 {
-    push(pieces, Piece::Command(Command::new(CommandNode::Direct(command))))
+    push(
+        pieces,
+        Piece::Command(Command::new(CommandNode::Direct(command))),
+    )
 }
 
 fn push_making(pieces: &mut Vec<Piece<'_>>, making: Making) -> Result<(), AllocError>
@@ -157,7 +165,10 @@ pub(crate) fn make_definition(alloc: Global, pieces: &mut Vec<Piece<'_>>) -> Res
     push_making(pieces, Making::Definition { name, definition })
 }
 
-pub(crate) fn make_type_definition(alloc: Global, pieces: &mut Vec<Piece<'_>>) -> Result<(), AllocError>
+pub(crate) fn make_type_definition(
+    alloc: Global,
+    pieces: &mut Vec<Piece<'_>>,
+) -> Result<(), AllocError>
     requires { AreOf (symbols MakeTypeDefinition) (pieces_of pieces.old.items) }
     ensures { IfOk result (λ _. pieces_of pieces.new.items ≡ reduced MakeTypeDefinition (pieces_of pieces.old.items)) }
 {

@@ -103,7 +103,14 @@ pub(crate) fn typed_side(pieces: &mut Vec<Piece<'_>>) -> Result<(), AllocError>
         term,
     } = pop_right_side(pieces);
     let annotation = Some(ty);
-    push(pieces, Piece::RightSide(RightSide { annotation, is_iff, term }))
+    push(
+        pieces,
+        Piece::RightSide(RightSide {
+            annotation,
+            is_iff,
+            term,
+        }),
+    )
 }
 
 pub(crate) fn equals_side(pieces: &mut Vec<Piece<'_>>) -> Result<(), AllocError>
@@ -115,7 +122,14 @@ pub(crate) fn equals_side(pieces: &mut Vec<Piece<'_>>) -> Result<(), AllocError>
     let _close = pop_word(pieces);
     let annotation = None;
     let is_iff = false;
-    push(pieces, Piece::RightSide(RightSide { annotation, is_iff, term }))
+    push(
+        pieces,
+        Piece::RightSide(RightSide {
+            annotation,
+            is_iff,
+            term,
+        }),
+    )
 }
 
 pub(crate) fn iff_side(pieces: &mut Vec<Piece<'_>>) -> Result<(), AllocError>
@@ -127,5 +141,12 @@ pub(crate) fn iff_side(pieces: &mut Vec<Piece<'_>>) -> Result<(), AllocError>
     let _close = pop_word(pieces);
     let annotation = None;
     let is_iff = true;
-    push(pieces, Piece::RightSide(RightSide { annotation, is_iff, term }))
+    push(
+        pieces,
+        Piece::RightSide(RightSide {
+            annotation,
+            is_iff,
+            term,
+        }),
+    )
 }

@@ -12,8 +12,11 @@ ghost use Rattle.hol_notation_reader.specs.Build.{sides_from};
 ghost use Rattle.std.specs.Prelude.{drop};
 ghost use Rattle.hol_notation_reader.specs.View.{pieces_of};
 
-use crate::piece::{Piece, Side, pop_after_binder, pop_after_not, pop_bound, pop_maybe_term, pop_term, pop_word, push};
-use crate::terms::{bind_all, constant, infix, negation, operator_of};
+use crate::piece::{
+    Piece, Side, pop_after_binder, pop_after_not, pop_bound, pop_maybe_term, pop_term, pop_word,
+    push,
+};
+use crate::terms::{bind_all, constant, infix_term, negated, operator_of};
 use hol_notation_terms::{Operator, PreTerm};
 use std::alloc::{AllocError, Global};
 
@@ -23,8 +26,9 @@ fn with_sides(alloc: Global, term: PreTerm, sides: Vec<Side>) -> Result<PreTerm,
 {
     let mut left = sides;
     let mut whole = term;
-    while let Some(Side { operator, term }) = left.pop() {
-        whole = infix(alloc, operator, whole, term)?;
+    while let Some(side) = left.pop() {
+        let Side { operator, term } = side;
+        whole = infix_term(alloc, operator, whole, term)?;
     }
     Ok(whole)
 }
@@ -90,7 +94,7 @@ pub(crate) fn not_inside(alloc: Global, pieces: &mut Vec<Piece<'_>>) -> Result<(
     let _not = pop_word(pieces);
     let (argument, sides) = pop_after_not(pieces);
     let term = match argument {
-        Some(negated) => with_sides(alloc, negation(alloc, negated)?, sides)?,
+        Some(term) => with_sides(alloc, negated(alloc, term)?, sides)?,
         None => constant(alloc, Operator::Not)?,
     };
     push(pieces, Piece::Term(term))

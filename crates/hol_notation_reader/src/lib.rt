@@ -19,4 +19,4 @@ mod theorems;
 mod types;
 
 pub use laws::one_reading;
-pub use reader::{read_command, read_term, read_theorem};
+pub use reader::{read_command, read_term, read_theorem, read_type};

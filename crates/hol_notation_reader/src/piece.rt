@@ -184,7 +184,9 @@ pub(crate) fn pop_bound(pieces: &mut Vec<Piece<'_>>) -> (Vec<PreVariable>, PreTe
     }
 }
 
-pub(crate) fn pop_after_name(pieces: &mut Vec<Piece<'_>>) -> (Option<PreType>, Vec<PreVariable>, PreTerm)
+pub(crate) fn pop_after_name(
+    pieces: &mut Vec<Piece<'_>>,
+) -> (Option<PreType>, Vec<PreVariable>, PreTerm)
     requires { IsFirst of_after_name (pieces_of pieces.old.items) }
     ensures { pieces_of pieces.old.items ≡ after_name result.0 (reverse result.1.items) result.2 ∷ pieces_of pieces.new.items }
 {
@@ -204,7 +206,9 @@ pub(crate) fn pop_after_not(pieces: &mut Vec<Piece<'_>>) -> (Option<PreTerm>, Ve
     }
 }
 
-pub(crate) fn pop_after_binder(pieces: &mut Vec<Piece<'_>>) -> (Option<(Vec<PreVariable>, PreTerm)>, Vec<Side>)
+pub(crate) fn pop_after_binder(
+    pieces: &mut Vec<Piece<'_>>,
+) -> (Option<(Vec<PreVariable>, PreTerm)>, Vec<Side>)
     requires { IsFirst of_after_binder (pieces_of pieces.old.items) }
     ensures { pieces_of pieces.old.items ≡ after_binder (option_map binding_text result.0) (reverse (side_texts result.1.items)) ∷ pieces_of pieces.new.items }
 {

@@ -1,21 +1,21 @@
-//! The reader of whole texts, and of the words of a term and of a theorem expression.
+//! The reader of whole texts, and of the words of a type, a term and a theorem expression.
 ghost use Rattle.std.specs.Prelude.{map, MatchResult};
 ghost use Rattle.hol_notation_tokens.specs.Lexeme.{seen};
 ghost use Rattle.hol_notation_grammar.specs.declared.grammar.Rule.TheVariants as rules;
 ghost use Rattle.hol_notation_grammar.specs.Grammar.{language};
 ghost use Rattle.hol_notation_grammar.specs.Reading.{Fails};
-ghost use Rattle.hol_notation_reader.specs.Piece.{the_term, the_theorem};
+ghost use Rattle.hol_notation_reader.specs.Piece.{the_term, the_theorem, the_type};
 ghost use Rattle.hol_notation_reader.specs.View.{pieces_of};
 ghost use Rattle.hol_notation_reader.specs.Fold.{IsBuilt};
 ghost use Rattle.hol_notation_reader.specs.Reading.{IsRead, Reads, Says};
 ghost use Rattle.hol_notation_reader.specs.Errors.{IsSyntaxError, IsAnswer};
 
 use crate::fold::evaluate;
-use crate::piece::{Piece, pop_command, pop_term, pop_theorem};
+use crate::piece::{Piece, pop_command, pop_term, pop_theorem, pop_type};
 use hol_notation_commands::Command;
 use hol_notation_grammar::{Rule, read};
 use hol_notation_tactics::ThmExpr;
-use hol_notation_terms::PreTerm;
+use hol_notation_terms::{PreTerm, PreType};
 use hol_notation_tokens::{SyntaxError, Word, scan};
 use std::alloc::Global;
 
@@ -30,6 +30,14 @@ fn built<'t>(
 {
     let steps = read(alloc, rule, words, end)?;
     Ok(evaluate(alloc, steps)?)
+}
+
+/// The type that all the words say; `Syntax` at the first with which no type goes on, or at the end.
+pub fn read_type(alloc: Global, words: &[Word<'_>], end: usize) -> Result<PreType, SyntaxError>
+    ensures { MatchResult result (λ ty. Says rules.Type the_type (map seen words.now) ty) (Fails language rules.Type end (map seen words.now)) }
+{
+    let mut pieces = built(alloc, Rule::Type, words, end)?;
+    Ok(pop_type(&mut pieces))
 }
 
 /// The term that all the words say; `Syntax` at the first with which no term goes on, or at the end.

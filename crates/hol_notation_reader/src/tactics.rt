@@ -9,8 +9,11 @@ ghost use Rattle.hol_notation_reader.specs.Piece.{a_tactic};
 ghost use Rattle.hol_notation_reader.specs.View.{then_texts};
 ghost use Rattle.hol_notation_reader.specs.View.{pieces_of};
 
-use crate::piece::{Piece, ThenStep, pop_arguments, pop_assumption, pop_call, pop_maybe_tactic, pop_quotation, pop_steps, pop_tactic, pop_tactics, pop_word, push};
 use crate::arguments::call;
+use crate::piece::{
+    Piece, ThenStep, pop_arguments, pop_call, pop_maybe_tactic, pop_quotation, pop_steps,
+    pop_tactic, pop_tactics, pop_word, push,
+};
 use hol_notation_grammar::number_value;
 use hol_notation_tactics::{TacExpr, TacExprNode};
 use std::alloc::{AllocError, Global};
@@ -69,7 +72,10 @@ pub(crate) fn or_else_tactic(pieces: &mut Vec<Piece<'_>>) -> Result<(), AllocErr
     push(pieces, Piece::MaybeTactic(Some(tactic)))
 }
 
-pub(crate) fn application_first(alloc: Global, pieces: &mut Vec<Piece<'_>>) -> Result<(), AllocError>
+pub(crate) fn application_first(
+    alloc: Global,
+    pieces: &mut Vec<Piece<'_>>,
+) -> Result<(), AllocError>
     requires { AreOf (symbols ApplicationFirst) (pieces_of pieces.old.items) }
     ensures { IfOk result (λ _. pieces_of pieces.new.items ≡ reduced ApplicationFirst (pieces_of pieces.old.items)) }
 {

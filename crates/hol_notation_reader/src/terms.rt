@@ -3,14 +3,17 @@ ghost use Rattle.std.specs.Prelude.{◌≡◌, ◌∷◌, [], reverse, IfOk};
 ghost use Rattle.hol_notation_grammar.specs.declared.grammar.Production.TheVariants.{IffFirst, ImpliesFirst, OrFirst, AndFirst, EqualsFirst, NoIff, MoreIff, Plain, Negation, Binding, TypedTerm, NoArgument, MoreArguments, Named, Parenthesised, NamedBound, TypedBound, NameAlone, LastTyped, BoundBody, BoundMore};
 ghost use Rattle.hol_notation_grammar.specs.Table.{symbols};
 ghost use Rattle.hol_notation_reader.specs.Piece.{AreOf};
-ghost use Rattle.hol_notation_reader.specs.Build.{reduced, maybe_infix, infix, operator_of, bind, bind_all, applied, variable};
+ghost use Rattle.hol_notation_reader.specs.Build.{reduced, maybe_infix, infix_term, operator_of, bind, bind_all, applied, variable};
 ghost use Rattle.hol_notation_terms.specs.Text.{Applied, Constant};
 ghost use Rattle.hol_notation_terms.specs.declared.operator.Operator.TheVariants as sign;
 ghost use Rattle.hol_notation_reader.specs.Piece.{IsFirst, of_term, of_maybe_term, a_term, the_term, term_if_any, at};
 ghost use Rattle.std.specs.Prelude.{drop};
 ghost use Rattle.hol_notation_reader.specs.View.{pieces_of};
 
-use crate::piece::{Piece, pop_after_name, pop_bound, pop_maybe_term, pop_maybe_type, pop_term, pop_terms, pop_type, pop_word, push};
+use crate::piece::{
+    Piece, pop_after_name, pop_bound, pop_maybe_term, pop_maybe_type, pop_term, pop_terms,
+    pop_type, pop_word, push,
+};
 use hol_notation_terms::{Operator, PreTerm, PreTermNode, PreType, PreVariable};
 use hol_notation_tokens::Kind;
 use std::alloc::{AllocError, Global};
@@ -41,13 +44,13 @@ pub(crate) fn constant(alloc: Global, operator: Operator) -> Result<PreTerm, All
 }
 
 /// An infix between two terms.
-pub(crate) fn infix(
+pub(crate) fn infix_term(
     alloc: Global,
     operator: Operator,
     left: PreTerm,
     right: PreTerm,
 ) -> Result<PreTerm, AllocError>
-    ensures { IfOk result (λ term. term ≡ infix operator left right) }
+    ensures { IfOk result (λ term. term ≡ infix_term operator left right) }
 {
     let function = constant(alloc, operator)?;
     let half = PreTerm::new(alloc, PreTermNode::Apply(function, left))?;
@@ -55,8 +58,8 @@ pub(crate) fn infix(
 }
 
 /// The negation of a term.
-pub(crate) fn negation(alloc: Global, term: PreTerm) -> Result<PreTerm, AllocError>
-    ensures { IfOk result (λ negated. negated ≡ Applied (Constant sign.Not) term) }
+pub(crate) fn negated(alloc: Global, term: PreTerm) -> Result<PreTerm, AllocError>
+    ensures { IfOk result (λ not. not ≡ Applied (Constant sign.Not) term) }
 {
     let not = constant(alloc, Operator::Not)?;
     PreTerm::new(alloc, PreTermNode::Apply(not, term))
@@ -100,11 +103,7 @@ pub(crate) fn bind_all(
 }
 
 // A function and its arguments, the last of the list first.
-fn applied(
-    alloc: Global,
-    function: PreTerm,
-    arguments: Vec<PreTerm>,
-) -> Result<PreTerm, AllocError>
+fn applied(alloc: Global, function: PreTerm, arguments: Vec<PreTerm>) -> Result<PreTerm, AllocError>
     ensures { IfOk result (λ term. term ≡ applied function (reverse arguments.items)) }
 {
     let mut left = arguments;
@@ -138,7 +137,7 @@ fn maybe_infix(
 {
     let left = pop_term(pieces);
     let term = match pop_maybe_term(pieces) {
-        Some(right) => infix(alloc, operator, left, right)?,
+        Some(right) => infix_term(alloc, operator, left, right)?,
         None => left,
     };
     push(pieces, Piece::Term(term))
@@ -209,8 +208,8 @@ pub(crate) fn negation(alloc: Global, pieces: &mut Vec<Piece<'_>>) -> Result<(),
 {
     let _not = pop_word(pieces);
     let term = pop_term(pieces);
-    let negated = negation(alloc, term)?;
-    push(pieces, Piece::Term(negated))
+    let not = negated(alloc, term)?;
+    push(pieces, Piece::Term(not))
 }
 
 pub(crate) fn binding(alloc: Global, pieces: &mut Vec<Piece<'_>>) -> Result<(), AllocError>

@@ -7,12 +7,15 @@ ghost use Rattle.hol_notation_reader.specs.Build.{reduced};
 ghost use Rattle.hol_notation_tactics.specs.Text as tactic;
 ghost use Rattle.hol_notation_reader.specs.View.{pieces_of};
 
-use crate::piece::{Piece, pop_pair, pop_pairs, pop_quotation, pop_theorem, pop_theorems, pop_type_quotation, pop_word, push};
+use crate::piece::{
+    Piece, pop_pair, pop_pairs, pop_quotation, pop_theorem, pop_theorems, pop_type_quotation,
+    pop_word, push,
+};
 use hol_notation_tactics::{ThmExpr, ThmExprNode, TypePair};
 use std::alloc::{AllocError, Global};
 
 /// A theorem that is cited.
-pub(crate) fn cited(alloc: Global, name: &str) -> Result<ThmExpr, AllocError>
+pub(crate) fn citation(alloc: Global, name: &str) -> Result<ThmExpr, AllocError>
     ensures { IfOk result (λ theorem. theorem ≡ tactic.Cited name.now) }
 {
     ThmExpr::new(alloc, ThmExprNode::Name(String::from_str(alloc, name)?))
@@ -118,7 +121,7 @@ pub(crate) fn cited(alloc: Global, pieces: &mut Vec<Piece<'_>>) -> Result<(), Al
     ensures { IfOk result (λ _. pieces_of pieces.new.items ≡ reduced Cited (pieces_of pieces.old.items)) }
 {
     let name = pop_word(pieces);
-    let theorem = cited(alloc, name.text)?;
+    let theorem = citation(alloc, name.text)?;
     push(pieces, Piece::Theorem(theorem))
 }
 

@@ -7,7 +7,9 @@ ghost use Rattle.hol_notation_reader.specs.Build.{reduced, postfix, listed};
 ghost use Rattle.hol_notation_grammar.specs.Step.{name_texts};
 ghost use Rattle.hol_notation_reader.specs.View.{pieces_of};
 
-use crate::piece::{Piece, pop_maybe_type, pop_type, pop_type_list, pop_type_names, pop_word, push};
+use crate::piece::{
+    Piece, pop_maybe_type, pop_type, pop_type_list, pop_type_names, pop_word, push,
+};
 use hol_notation_terms::{PreType, PreTypeNode};
 use std::alloc::{AllocError, Global};
 

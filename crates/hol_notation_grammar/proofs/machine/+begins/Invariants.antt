@@ -11,5 +11,5 @@ decreases-leads l = 2 * l.depth + 1
 
 abbrev pub invariant-begins-loop-production : goal.invariant-begins-loop-production
 invariant-begins-loop-production l =
-    some_leads (λ m j. begins language (l.depth - 1) m j) (λ p. symbols p) (drop l.production-index l.production-items) (sort_of l)
-    ≡ some_leads (λ m j. begins language (l.depth - 1) m j) (λ p. symbols p) l.production-items (sort_of l)
+    some_leads (λ m j. begins language (l.depth - 1) m j) (λ p. symbols p) (drop l.production-index l.production-items) l.sort
+    ≡ some_leads (λ m j. begins language (l.depth - 1) m j) (λ p. symbols p) l.production-items l.sort
