@@ -68,7 +68,8 @@ pub(crate) fn grouped_argument(pieces: &mut Vec<Piece<'_>>) -> Result<(), AllocE
     ensures { IfOk result (λ _. pieces_of pieces.new.items ≡ reduced GroupedArgument (pieces_of pieces.old.items)) }
 {
     let _open = pop_word(pieces);
-    Ok(())
+    let argument = pop_argument(pieces);
+    push(pieces, Piece::Argument(argument))
 }
 
 pub(crate) fn listed_argument(pieces: &mut Vec<Piece<'_>>) -> Result<(), AllocError>

@@ -87,8 +87,8 @@ pub(crate) fn plain_side(pieces: &mut Vec<Piece<'_>>) -> Result<(), AllocError>
     requires { AreOf (symbols PlainSide) (pieces_of pieces.old.items) }
     ensures { IfOk result (λ _. pieces_of pieces.new.items ≡ reduced PlainSide (pieces_of pieces.old.items)) }
 {
-    let _nothing_changes = pieces;
-    Ok(())
+    let right = pop_right_side(pieces);
+    push(pieces, Piece::RightSide(right))
 }
 
 pub(crate) fn typed_side(pieces: &mut Vec<Piece<'_>>) -> Result<(), AllocError>

@@ -244,7 +244,8 @@ pub(crate) fn listed_tactics(pieces: &mut Vec<Piece<'_>>) -> Result<(), AllocErr
     ensures { IfOk result (λ _. pieces_of pieces.new.items ≡ reduced ListedTactics (pieces_of pieces.old.items)) }
 {
     let _open = pop_word(pieces);
-    Ok(())
+    let tactics = pop_tactics(pieces);
+    push(pieces, Piece::Tactics(tactics))
 }
 
 pub(crate) fn no_tactics(alloc: Global, pieces: &mut Vec<Piece<'_>>) -> Result<(), AllocError>

@@ -198,8 +198,8 @@ pub(crate) fn plain(pieces: &mut Vec<Piece<'_>>) -> Result<(), AllocError>
     requires { AreOf (symbols Plain) (pieces_of pieces.old.items) }
     ensures { IfOk result (λ _. pieces_of pieces.new.items ≡ reduced Plain (pieces_of pieces.old.items)) }
 {
-    let _nothing_changes = pieces;
-    Ok(())
+    let term = pop_term(pieces);
+    push(pieces, Piece::Term(term))
 }
 
 pub(crate) fn negation(alloc: Global, pieces: &mut Vec<Piece<'_>>) -> Result<(), AllocError>
@@ -267,7 +267,8 @@ pub(crate) fn parenthesised(pieces: &mut Vec<Piece<'_>>) -> Result<(), AllocErro
     ensures { IfOk result (λ _. pieces_of pieces.new.items ≡ reduced Parenthesised (pieces_of pieces.old.items)) }
 {
     let _open = pop_word(pieces);
-    Ok(())
+    let term = pop_term(pieces);
+    push(pieces, Piece::Term(term))
 }
 
 pub(crate) fn named_bound(alloc: Global, pieces: &mut Vec<Piece<'_>>) -> Result<(), AllocError>
@@ -326,6 +327,6 @@ pub(crate) fn bound_more(pieces: &mut Vec<Piece<'_>>) -> Result<(), AllocError>
     requires { AreOf (symbols BoundMore) (pieces_of pieces.old.items) }
     ensures { IfOk result (λ _. pieces_of pieces.new.items ≡ reduced BoundMore (pieces_of pieces.old.items)) }
 {
-    let _nothing_changes = pieces;
-    Ok(())
+    let (variables, body) = pop_bound(pieces);
+    push(pieces, Piece::Bound(variables, body))
 }

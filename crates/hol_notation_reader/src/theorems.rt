@@ -25,8 +25,8 @@ pub(crate) fn simple(pieces: &mut Vec<Piece<'_>>) -> Result<(), AllocError>
     requires { AreOf (symbols Simple) (pieces_of pieces.old.items) }
     ensures { IfOk result (λ _. pieces_of pieces.new.items ≡ reduced Simple (pieces_of pieces.old.items)) }
 {
-    let _nothing_changes = pieces;
-    Ok(())
+    let theorem = pop_theorem(pieces);
+    push(pieces, Piece::Theorem(theorem))
 }
 
 pub(crate) fn assumption(alloc: Global, pieces: &mut Vec<Piece<'_>>) -> Result<(), AllocError>

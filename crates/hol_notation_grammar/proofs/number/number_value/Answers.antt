@@ -7,3 +7,9 @@ overflow_mul-number c =
     let few : c.loop-digit.digit-index ≤ 4 = omega (arith, c.loop-digit.invariant.few, c.loop-digit-test.true) in
     let top : cap c.loop-digit.digit-index ≤ 283305 = cap_bound c.loop-digit.digit-index few in
     omega (arith, c.loop-digit.invariant.bound, top)
+
+pub returns-clause-fits : goal.returns-clause-fits
+returns-clause-fits c =
+    let few : c.loop-digit.digit-index ≤ 4 = omega (arith, c.loop-digit.invariant.few, c.loop-digit.invariant.within) in
+    let top : cap c.loop-digit.digit-index ≤ 283305 = cap_bound c.loop-digit.digit-index few in
+    omega (arith, c.loop-digit.invariant.bound, top)

@@ -7,5 +7,6 @@ abbrev pub invariant-loop-digit : goal.invariant-loop-digit
 invariant-loop-digit l = record {
   value : decimal_from l.number (drop l.digit-index l.digits) ≡ number_value l.word;
   few : length l.digits ≤ 4;
+  within : l.digit-index ≤ length l.digits;
   bound : l.number ≤ cap l.digit-index;
 }
