@@ -14,7 +14,7 @@ use Rattle.hol_notation_grammar.specs.declared.machine.Step.{Step}
 use Rattle.hol_notation_grammar.specs.declared.machine.Step.TheVariants.{Choose, Take}
 use Rattle.hol_notation_grammar.specs.Sort.{sort_of}
 use Rattle.hol_notation_grammar.specs.Step.{step_text, step_texts}
-use Rattle.hol_notation_grammar.specs.Table.{has, productions, symbols}
+use Rattle.hol_notation_grammar.specs.Table.{has, binds, productions, symbols}
 use Rattle.hol_notation_grammar.specs.Grammar.{Grammar, language, leads, some_leads, begins, opens, IsAmong, StepText, choose, take, named, add_if, AreNew, Tree, Stands, then, all_steps}
 use Rattle.hol_notation_grammar.specs.Reading.{IsText, IsNext, Stops}
 use Rattle.hol_notation_grammar.specs.Path.{Path, Any, sort_next, IsOmitted, IsNeeded, Keeps, Omits, TakesFirst, Takes, Halts, Accepts, Notes, IsReadTo, GoesOn, Closes}
@@ -99,7 +99,7 @@ pub takes_part : (top : Symbol) (m : Rule) (k : Sort) (x : Lexeme) (c : Class) (
     → top ≡ Part m → k ≡ sort_of x → ps ≡ productions m → IsAmong p ps → leads (λ r j. opens language r j) (symbols p) k ≡ true → middle ≡ events ++ choose p ∷ [] → symbols p ++ rest ≡ first ∷ below
     → TakesFirst language x c (first ∷ below) middle todo_ events_ → TakesFirst language x c (top ∷ rest) events todo_ events_
 takes_part top m k x c p ps first rest below todo_ events middle events_ e same w a l v s t = (
-  t.0 ∙ ap (λ (names : List (List ℕ)). names ++ add_if _ x.text []) (chosen events middle p v),
+  t.0 ∙ ap (λ (names : List (List ℕ)). names ++ add_if (binds c) x.text []) (chosen events middle p v),
   λ n front path.
       let q = path_descend language certain n front m rest p events x (subst (IsAmong p) w a) (subst (λ (j : Sort). leading language p j ≡ true) same l)
       (subst (λ (z : Symbol). Path language n front (z ∷ rest) events (IsNext (Some x))) e path) in
@@ -128,7 +128,7 @@ keeps_start k todo events = (refl, λ n front next same path. path)
 pub accepts_taken : (x : Lexeme) (c : Class) (k : Sort) (todo middle todo_ : List Symbol) (events between events_ : List StepText) → k ≡ sort_of x → Keeps language (Some k) todo events middle between
     → TakesFirst language x c middle between todo_ events_ → Takes language x c Any todo events todo_ events_
 accepts_taken x c k todo middle todo_ events between events_ same h t = (
-  t.0 ∙ ap (λ (names : List (List ℕ)). names ++ add_if _ x.text []) h.0,
+  t.0 ∙ ap (λ (names : List (List ℕ)). names ++ add_if (binds c) x.text []) h.0,
   λ n front path. t.1 n front (h.1 n front (Some x) (ap (λ (j : Sort). Some j) (sym same)) (path_narrow language n front todo events Any (IsNext (Some x)) (λ more m. tt) path)),
 )
 
@@ -149,8 +149,8 @@ pub goes_on : (x : Lexeme) (c : Class) (todo todo_ : List Symbol) (events events
     → Notes names c x true names_ → GoesOn language x todo events names true todo_ events_ names_
 goes_on x c todo todo_ events events_ names names_ t h n front r = record {
   path = t.1 n front r.path;
-  same = h.1 ∙ ap (λ (l : List (List ℕ)). l ++ add_if _ x.text []) r.same ∙ sym t.0;
-  new = subst (AreNew []) (sym h.1) (new_join [] names (add_if _ x.text []) r.new h.0);
+  same = h.1 ∙ ap (λ (l : List (List ℕ)). l ++ add_if (binds c) x.text []) r.same ∙ sym t.0;
+  new = subst (AreNew []) (sym h.1) (new_join [] names (add_if (binds c) x.text []) r.new h.0);
 }
 
 pub not_new : (x : Lexeme) (c : Class) (todo todo_ todo__ : List Symbol) (events events_ events__ : List StepText) (names names_ names__ : List (List ℕ)) → Takes language x c Any todo events todo_ events_
@@ -159,8 +159,8 @@ not_new x c todo todo_ todo__ events events_ events__ names names_ names__ t h n
 not_new x c todo todo_ todo__ events events_ events__ names names_ names__ t h n front r written (y ∷ more) s new nx w =
     let whole = append_assoc front (x ∷ []) more ∙ ap (λ (z : Lexeme). front ++ z ∷ more) nx ∙ w in
     let d = (t.1 n front r.path).down written more tt s whole in
-    let e = ap named d.says ∙ named_join events_ (all_steps d.written) ∙ ap (λ (l : List (List ℕ)). l ++ named (all_steps d.written)) (t.0 ∙ ap (λ (l : List (List ℕ)). l ++ add_if _ x.text []) (sym r.same)) in
-    h (new_back [] names (add_if _ x.text []) (new_front [] (names ++ add_if _ x.text []) (named (all_steps d.written)) (subst (AreNew []) e new)))
+    let e = ap named d.says ∙ named_join events_ (all_steps d.written) ∙ ap (λ (l : List (List ℕ)). l ++ named (all_steps d.written)) (t.0 ∙ ap (λ (l : List (List ℕ)). l ++ add_if (binds c) x.text []) (sym r.same)) in
+    h (new_back [] names (add_if (binds c) x.text []) (new_front [] (names ++ add_if (binds c) x.text []) (named (all_steps d.written)) (subst (AreNew []) e new)))
 
 -- by whether it is new
 pub goes_or_not : (x : Lexeme) (c : Class) (todo todo_ : List Symbol) (events events_ : List StepText) (names names_ : List (List ℕ)) (new : Bool) → Takes language x c Any todo events todo_ events_
