@@ -28,7 +28,7 @@ returns-in_ok-push-in-Token t c =
 
 pub unreachable-requires : goal.unreachable-requires
 unreachable-requires t c =
-    none_leads c.args.depth c.args.top c.in-Part.rule c.args.sort c.productions.result.now c.in-Part.is c.requires.1 c.productions.ensures (c.in_default.ensures tt)
+    none_leads c.args.depth c.args.top c.in-Part.rule c.args.sort c.productions.result.now c.in-Part.is c.requires.1 c.productions.ensures c.in_default.ensures
 
 pub returns-in-Some-pop : goal.returns-in-Some-pop
 returns-in-Some-pop t c =

@@ -8,7 +8,7 @@ pub returns-in_ok-descend-in-Some : goal.returns-in_ok-descend-in-Some
 returns-in_ok-descend-in-Some c =
     let o = omits_some (Some c.sort_of-sort.result) (reverse c.args.todo.now.items) (reverse c.omit.new.todo.items) (step_texts c.args.steps.now.items) (step_texts c.omit.new.steps.items) _ c.in-Some.top c.in-Some.is
     c.in_ok-top.ensures in
-    accepts_taken (seen c.args.word.now) c.in_ok-descend.field-0 c.sort_of-sort.result (reverse c.args.todo.now.items) (c.in-Some.top ∷ reverse c.omit.new.todo.items) (reverse c.descend.new.todo.items)
+    accepts_taken (seen c.args.word.now) c.in_ok-descend-in-Some.field-0 c.sort_of-sort.result (reverse c.args.todo.now.items) (c.in-Some.top ∷ reverse c.omit.new.todo.items) (reverse c.descend.new.todo.items)
     (step_texts c.args.steps.now.items) (step_texts c.omit.new.steps.items) (step_texts c.descend.new.steps.items) c.sort_of-sort.ensures o.1 c.in_ok-descend-in-Some.ensures
 
 pub returns-else-is_begun : goal.returns-else-is_begun
