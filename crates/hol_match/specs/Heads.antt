@@ -1,8 +1,12 @@
 -- Rules in buckets by the constants at the heads of their left sides, so that a term is tried with those of its head's bucket, and with those
--- of bucket 0, where all without a head are. Only private clauses speak of these.
+-- of bucket 0, where all without a head are. Rules of whose left sides all stays match what is such a side up to bound names, so these are
+-- found by the order of terms and tried in no bucket. Only private clauses speak of these.
 -- Source: this project.
-use Rattle.std.specs.Prelude.{ℕ, zero, suc, ◌+◌, ◌*◌, ◌%◌, List, [], ◌∷◌, Bool, true, cond, not, ◌&&◌, ◌||◌, nat_eq, nat_lt, Option, Some, None}
+use Rattle.std.specs.Prelude.{ℕ, zero, suc, ◌+◌, ◌*◌, ◌%◌, List, [], ◌∷◌, map, Bool, true, false, cond, not, ◌&&◌, ◌||◌, nat_eq, nat_lt, Option, Some, None}
+use Rattle.std.specs.Ordering.{is_eq}
 use Rattle.hol_terms.specs.Nameless.{Nameless, free, bound, fixed, app, lam}
+use Rattle.hol_subst.specs.AlphaOrder.{alpha_cmp}
+use Rattle.hol_match.specs.Fixed.{all_stay}
 use Rattle.hol_match.specs.Instance.{InstanceValue}
 use Rattle.hol_match.specs.RuleSets.{RuleEntry, fit, or_later}
 use Rattle.hol_match.specs.Outlines.{is_variable, may_match}
@@ -24,25 +28,41 @@ head_bucket m (lam a s b) k = 0
 abbrev pub bucket_of : ℕ → Nameless → ℕ
 bucket_of m t = head_bucket m t 16
 
+-- all of the rule's left side stays
+abbrev pub is_settled : RuleEntry → Bool
+is_settled e = all_stay (map (λ p. p.1) e.stays.types) (map (λ p. p.1) e.stays.terms) e.rule.left
+
+-- something of it doesn't
+abbrev pub is_loose : RuleEntry → Bool
+is_loose e = not (is_settled e)
+
 -- ---- the rules of one bucket
 
-abbrev pub is_in : ℕ → ℕ → RuleEntry → Bool
-is_in m b e = nat_eq (bucket_of m e.rule.left) b
+-- the rule is in bucket b, of m; in the loose buckets are only those of which something doesn't stay
+abbrev pub is_in : Bool → ℕ → ℕ → RuleEntry → Bool
+is_in loose m b e = not (loose && is_settled e) && nat_eq (bucket_of m e.rule.left) b
 
--- the number of the first of these rules that is in bucket b, the first of all having number i; the number after all where none is
-abbrev pub next_in : ℕ → ℕ → ℕ → List RuleEntry → ℕ
-next_in m b i [] = i
-next_in m b i (e ∷ es) = cond (is_in m b e) i (next_in m b (i + 1) es)
+-- the number of the first of these rules that passes the test, the first of all having number i; the number after all where none does
+abbrev pub next_in : (RuleEntry → Bool) → ℕ → List RuleEntry → ℕ
+next_in test i [] = i
+next_in test i (e ∷ es) = cond (test e) i (next_in test (i + 1) es)
 
--- the first rule of the bucket that matches the term, by its number
-abbrev pub first_in : ℕ → ℕ → ℕ → List RuleEntry → Nameless → Option (ℕ × InstanceValue)
-first_in m b i [] t = None
-first_in m b i (e ∷ es) t = or_later i (cond (is_in m b e) (fit e t) None) (first_in m b (i + 1) es t)
+-- the first rule that passes the test and matches the term, by its number
+abbrev pub first_in : (RuleEntry → Bool) → ℕ → List RuleEntry → Nameless → Option (ℕ × InstanceValue)
+first_in test i [] t = None
+first_in test i (e ∷ es) t = or_later i (cond (test e) (fit e t) None) (first_in test (i + 1) es t)
 
 -- each rule of the bucket has a variable for its left side, or another outline than the term
 abbrev pub bucket_passes_over : ℕ → ℕ → List RuleEntry → Nameless → Bool
 bucket_passes_over m b [] t = true
-bucket_passes_over m b (e ∷ es) t = cond (is_in m b e) (is_variable e.rule.left || not (may_match e.rule.left t)) true && bucket_passes_over m b es t
+bucket_passes_over m b (e ∷ es) t = cond (is_in false m b e) (is_variable e.rule.left || not (may_match e.rule.left t)) true && bucket_passes_over m b es t
+
+-- ---- the rules of which all stays
+
+-- the number of the first one whose left side is the term up to bound names
+abbrev pub first_settled : ℕ → List RuleEntry → Nameless → Option ℕ
+first_settled i [] t = None
+first_settled i (e ∷ es) t = cond (is_settled e && is_eq (alpha_cmp e.rule.left t)) (Some i) (first_settled (i + 1) es t)
 
 -- of two rules that match, the one with the lower number
 abbrev pub earlier : Option (ℕ × InstanceValue) → Option (ℕ × InstanceValue) → Option (ℕ × InstanceValue)

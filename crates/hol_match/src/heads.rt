@@ -1,8 +1,9 @@
 //! Rules in buckets by the constants at the heads of their left sides.
-ghost use Rattle.std.specs.Prelude.{◌≡◌, ◌<◌, [], length, get_or, set, IfOk};
+ghost use Rattle.std.specs.Prelude.{◌≡◌, ◌<◌, ◌&&◌, [], cond, length, get_or, set, IfOk};
 ghost use Rattle.hol_terms.specs.Nameless.{nameless};
-ghost use Rattle.hol_match.specs.Heads.{name_number, head_bucket, bucket_of};
+ghost use Rattle.hol_match.specs.Heads.{name_number, head_bucket, bucket_of, is_settled};
 ghost use Rattle.hol_match.specs.HeadView.{AreFirst, AreNext};
+ghost use Rattle.hol_match.specs.SetView.{set_rule};
 
 use crate::set_rule::SetRule;
 use hol_terms::{Term, TermNode};
@@ -21,12 +22,12 @@ pub(crate) struct Heads {
 }
 
 impl Heads {
-    /// The buckets of the rules.
-    pub(crate) fn of(alloc: Global, rules: &[SetRule]) -> Result<Heads, AllocError>
+    /// The buckets of the rules; of loose ones those of which all stays are in none.
+    pub(crate) fn of(alloc: Global, rules: &[SetRule], loose: bool) -> Result<Heads, AllocError>
         ensures some { IfOk result (λ h. 0 < length h.first.items) }
         ensures long { IfOk result (λ h. length h.next.items ≡ length rules.now) }
-        ensures first { IfOk result (λ h. AreFirst rules.now h.first.items) }
-        ensures next { IfOk result (λ h. AreNext (length h.first.items) rules.now h.next.items) }
+        ensures first { IfOk result (λ h. AreFirst loose rules.now h.first.items) }
+        ensures next { IfOk result (λ h. AreNext loose (length h.first.items) rules.now h.next.items) }
     {
         let end = rules.len();
         let mut heads = Heads {
@@ -36,20 +37,33 @@ impl Heads {
         let mut left = end;
         'rules: while left > 0 {
             left -= 1;
-            heads.put(left, rules[left].left());
+            heads.put_rule(left, &rules[left], loose);
         }
         Ok(heads)
     }
 
-    // Puts the rule of this number, whose left side is given, at the head of its bucket.
-    fn put(&mut self, i: usize, side: &Term)
+    // Puts the rule of this number at the head of its bucket; where they are loose, one of which all stays in none.
+    fn put_rule(&mut self, i: usize, rule: &SetRule, loose: bool)
         requires some { 0 < length self.old.first.items }
         requires within { i < length self.old.next.items }
-        ensures bucket { bucket_of (length self.old.first.items) (nameless [] side.now) < length self.old.first.items }
-        ensures first { self.new.first.items ≡ set self.old.first.items (bucket_of (length self.old.first.items) (nameless [] side.now)) i }
-        ensures next { self.new.next.items ≡ set self.old.next.items i (get_or self.old.first.items (bucket_of (length self.old.first.items) (nameless [] side.now)) 0) }
+        ensures bucket { bucket_of (length self.old.first.items) (set_rule rule.now).rule.left < length self.old.first.items }
+        ensures first { self.new.first.items ≡ cond (loose && is_settled (set_rule rule.now)) self.old.first.items (set self.old.first.items (bucket_of (length self.old.first.items) (set_rule rule.now).rule.left) i) }
+        ensures next { self.new.next.items ≡ cond (loose && is_settled (set_rule rule.now)) self.old.next.items (set self.old.next.items i (get_or self.old.first.items (bucket_of (length self.old.first.items) (set_rule rule.now).rule.left) 0)) }
     {
-        let bucket = self.bucket_of(side);
+        let bucket = self.bucket_of(rule.left());
+        if is_left_out(rule, loose) {
+            return;
+        }
+        self.put(i, bucket);
+    }
+
+    // Puts the rule of this number at the head of the bucket.
+    fn put(&mut self, i: usize, bucket: usize)
+        requires bucket { bucket < length self.old.first.items }
+        requires within { i < length self.old.next.items }
+        ensures first { self.new.first.items ≡ set self.old.first.items bucket i }
+        ensures next { self.new.next.items ≡ set self.old.next.items i (get_or self.old.first.items bucket 0) }
+    {
         self.next[i] = self.first[bucket];
         self.first[bucket] = i;
     }
@@ -62,6 +76,13 @@ impl Heads {
     {
         head_bucket(t, 16, self.first.len())
     }
+}
+
+// Whether the rule is put in no bucket.
+fn is_left_out(rule: &SetRule, loose: bool) -> bool
+    ensures { result ≡ (loose && is_settled (set_rule rule.now)) }
+{
+    loose && rule.is_settled()
 }
 
 // The bucket, of so many, of the term's head constant, if that has no more than so many arguments.

@@ -1,5 +1,5 @@
 //! Rules of sets.
-ghost use Rattle.std.specs.Prelude.{◌≡◌, [], IfOk, IfSome, IsTrue, MatchOption, Some, None};
+ghost use Rattle.std.specs.Prelude.{◌≡◌, [], IfOk, IfSome, MatchOption, Some, None};
 ghost use Rattle.std.specs.Option.{option_map};
 ghost use Rattle.std.specs.Coded.{Coded-set, coded_option};
 ghost use Rattle.hol_terms.specs.Nameless.{nameless};
@@ -8,6 +8,7 @@ ghost use Rattle.hol_match.specs.Matches.{IsMatch};
 ghost use Rattle.hol_match.specs.Rules.{single_rule};
 ghost use Rattle.hol_match.specs.RuleView.{rule_value};
 ghost use Rattle.hol_match.specs.Fixed.{all_stay, stays};
+ghost use Rattle.hol_match.specs.Heads.{is_settled};
 ghost use Rattle.hol_match.specs.Ways.{rule_way, rule_code, way};
 ghost use Rattle.hol_match.specs.Sources.{source_whole, IsFrom, IsSound};
 
@@ -147,14 +148,12 @@ impl SetRule {
         match_with(alloc, self.fixed(), self.left(), t)
     }
 
-    /// Whether the term is seen at once not to match: all of the left side stays, and the term is another one.
-    ///
-    /// Takes no memory.
-    #[tactic(auto, using(crate::proofs::Ground::apart))]
-    pub(crate) fn is_apart_from(&self, t: &Term) -> bool
-        ensures { IsTrue result → fit (set_rule self.now) (nameless [] t.now) ≡ None }
+    /// Whether all of the left side stays.
+    #[tactic(auto, using(crate::proofs::Ground::settled))]
+    pub(crate) fn is_settled(&self) -> bool
+        ensures { result ≡ is_settled (set_rule self.now) }
     {
-        self.settled && !self.rule.left().alpha_equivalent(t)
+        self.settled
     }
 
     /// The number of its theorem in the list from which the set was made.
