@@ -3,29 +3,33 @@ use Rattle.std.proofs.Common.{◌≡◌, ◌≢◌, ℕ, zero, suc, ◌+◌, ◌
 use Rattle.std.proofs.lemmas.Bool.{and_parts, eq-eqb, eqb-true, lt-ltb, le-ltb}
 use Rattle.std.proofs.lemmas.List.{drop_all, get_or_default, get_or-set_same, get_or-set_other, length-set}
 use Rattle.std.proofs.lemmas.Slice.Eq.{bytes_eq-Decides}
+use Rattle.hol_types.specs.Tree.{TypeTree}
 use Rattle.hol_types.proofs.Steps.{next_of}
 use Rattle.hol_terms.specs.Nameless.{Nameless, free, bound, fixed, app, lam}
 use Rattle.hol_match.specs.Instance.{InstanceValue}
 use Rattle.hol_match.specs.RuleSets.{RuleEntry, fit, or_later, first_fit}
 use Rattle.hol_match.specs.Outlines.{is_variable, may_match, rules_pass_over}
 use Rattle.hol_match.specs.SetView.{set_rule, set_rules}
-use Rattle.hol_match.specs.Heads.{head_bucket, bucket_of, is_settled, is_loose, is_in, next_in, first_in, bucket_passes_over, earlier}
+use Rattle.hol_match.specs.Heads.{head_bucket, rule_bucket, term_bucket, is_settled, is_loose, is_in, next_in, first_in, bucket_passes_over, earlier}
 use Rattle.hol_match.specs.HeadView.{AreFirst, AreNext}
 use Rattle.hol_match.specs.declared.set_rule.SetRule.{SetRule}
-use Rattle.hol_match.proofs.Outlines.{fit_apart}
+use Rattle.hol_match.proofs.Ground.{loose_head}
 
-pub one_argument : (m : ℕ) (f x : Nameless) (k : ℕ) → k ≢ 0 → head_bucket m (app f x) k ≡ head_bucket m f (k - 1)
-one_argument m f x zero h = absurd (h refl)
-one_argument m f x (suc k) h = let same : k ≡ suc k - 1 = omega arith in ap (head_bucket m f) same
+pub one_argument : (known : List ℕ × TypeTree → Bool) (m : ℕ) (f x : Nameless) (k : ℕ) → k ≢ 0 → head_bucket known m (app f x) k ≡ head_bucket known m f (k - 1)
+one_argument known m f x zero h = absurd (h refl)
+one_argument known m f x (suc k) h = let same : k ≡ suc k - 1 = omega arith in ap (head_bucket known m f) same
 
 -- ---- a rule that may match has the bucket of the term, or has no head
-bucket_meets : (m : ℕ) (p t : Nameless) (k : ℕ) → may_match p t ≡ true → (head_bucket m p k ≡ 0) ⊎ (head_bucket m p k ≡ head_bucket m t k)
+abbrev none_known : List ℕ × TypeTree → Bool
+none_known v = false
+
+bucket_meets : (m : ℕ) (p t : Nameless) (k : ℕ) → may_match p t ≡ true → (head_bucket none_known m p k ≡ 0) ⊎ (head_bucket none_known m p k ≡ head_bucket none_known m t k)
 bucket_meets m (free v) t k h = inl refl
 bucket_meets m (bound i) t k h = inl refl
 bucket_meets m (lam a s b) t k h = inl refl
 bucket_meets m (fixed c s) (free v) k h = absurd (cc)
 bucket_meets m (fixed c s) (bound i) k h = absurd (cc)
-bucket_meets m (fixed c s) (fixed d u) k h = inr (ap (λ (n : List ℕ). head_bucket m (fixed n s) k) ((bytes_eq-Decides c d).0 h))
+bucket_meets m (fixed c s) (fixed d u) k h = inr (ap (λ (n : List ℕ). head_bucket none_known m (fixed n s) k) ((bytes_eq-Decides c d).0 h))
 bucket_meets m (fixed c s) (app f x) k h = absurd (cc)
 bucket_meets m (fixed c s) (lam a u b) k h = absurd (cc)
 bucket_meets m (app p q) (free v) k h = absurd (cc)
@@ -36,16 +40,16 @@ bucket_meets m (app p q) (app f x) zero h = inl refl
 bucket_meets m (app p q) (app f x) (suc k) h = bucket_meets m p f k (and_parts (may_match p f) (may_match q x) h).0
 
 -- a rule of neither bucket is apart from the term
-neither : (m : ℕ) (e : RuleEntry) (t : Nameless) → nat_eq (bucket_of m e.rule.left) 0 ≡ false → nat_eq (bucket_of m e.rule.left) (bucket_of m t) ≡ false → may_match e.rule.left t ≡ false
+neither : (m : ℕ) (e : RuleEntry) (t : Nameless) → nat_eq (rule_bucket false m e) 0 ≡ false → nat_eq (rule_bucket false m e) (term_bucket false m t) ≡ false → may_match e.rule.left t ≡ false
 neither m e t none other = by (may_match e.rule.left t) refl
   where
     by : (b : Bool) → may_match e.rule.left t ≡ b → b ≡ false
     by false h = refl
     by true h = clash (bucket_meets m e.rule.left t 16 h)
       where
-        clash : (bucket_of m e.rule.left ≡ 0) ⊎ (bucket_of m e.rule.left ≡ bucket_of m t) → true ≡ false
-        clash (inl z) = sym (eq-eqb (bucket_of m e.rule.left) 0 z) ∙ none
-        clash (inr z) = sym (eq-eqb (bucket_of m e.rule.left) (bucket_of m t) z) ∙ other
+        clash : (rule_bucket false m e ≡ 0) ⊎ (rule_bucket false m e ≡ term_bucket false m t) → true ≡ false
+        clash (inl z) = sym (eq-eqb (rule_bucket false m e) 0 z) ∙ none
+        clash (inr z) = sym (eq-eqb (rule_bucket false m e) (term_bucket false m t) z) ∙ other
 
 -- ---- the first rule that passes one of two tests is the first one of either
 later_in : (p : RuleEntry → Bool) (i : ℕ) (es : List RuleEntry) (t : Nameless) (f : ℕ × InstanceValue) → first_in p i es t ≡ Some f → i ≤ f.0
@@ -82,11 +86,17 @@ no_fit : (b : Bool) (i : ℕ) (later : Option (ℕ × InstanceValue)) → or_lat
 no_fit true i later = refl
 no_fit false i later = refl
 
-module _ (r p q : RuleEntry → Bool) (t : Nameless) (parts : (e : RuleEntry) (a : InstanceValue) → fit e t ≡ Some a → r e ≡ (p e || q e)) where
-  pub either : (i : ℕ) (es : List RuleEntry) → first_in r i es t ≡ earlier (first_in p i es t) (first_in q i es t)
+module _ (r p q : RuleEntry → Bool) (t : Nameless) (parts : (x : SetRule) (a : InstanceValue) → fit (set_rule x) t ≡ Some a → r (set_rule x) ≡ (p (set_rule x) || q (set_rule x))) where
+  either : (i : ℕ) (rules : List SetRule) → first_in r i (set_rules rules) t ≡ earlier (first_in p i (set_rules rules) t) (first_in q i (set_rules rules) t)
   either i [] = refl
-  either i (e ∷ es) = by (fit e t) (r e) (p e) (q e) (parts e) refl refl (either (i + 1) es)
+  either i (x ∷ rules) = by (fit (set_rule x) t) (r e) (p e) (q e) (parts x) refl refl (either (i + 1) rules)
     where
+      abbrev e : RuleEntry
+      e = set_rule x
+
+      abbrev es : List RuleEntry
+      es = set_rules rules
+
       mine : Option (ℕ × InstanceValue)
       mine = first_in p (i + 1) es t
 
@@ -110,25 +120,29 @@ all_in i [] t = refl
 all_in i (e ∷ es) t = ap (or_later i (fit e t)) (all_in (i + 1) es t)
 
 -- all are loose or settled
-loose_or_settled : (i : ℕ) (es : List RuleEntry) (t : Nameless) → first_fit i es t ≡ earlier (first_in is_loose i es t) (first_in is_settled i es t)
-loose_or_settled i es t = all_in i es t ∙ either any_rule is_loose is_settled t (λ e a h. one (is_settled e)) i es
+loose_or_settled : (i : ℕ) (rules : List SetRule) (t : Nameless) → first_fit i (set_rules rules) t ≡ earlier (first_in is_loose i (set_rules rules) t) (first_in is_settled i (set_rules rules) t)
+loose_or_settled i rules t = all_in i (set_rules rules) t ∙ either any_rule is_loose is_settled t (λ x a h. one (is_settled (set_rule x))) i rules
   where
     one : (b : Bool) → true ≡ (not b || b)
     one true = refl
     one false = refl
 
 -- and a loose one that fits is in one of two buckets
-two_buckets : (m i : ℕ) (es : List RuleEntry) (t : Nameless) → first_in is_loose i es t ≡ earlier (first_in (is_in true m 0) i es t) (first_in (is_in true m (bucket_of m t)) i es t)
-two_buckets m i es t = either is_loose (is_in true m 0) (is_in true m (bucket_of m t)) t parts i es
+two_buckets : (m i : ℕ) (rules : List SetRule) (t : Nameless) → first_in is_loose i (set_rules rules) t ≡ earlier (first_in (is_in true m 0) i (set_rules rules) t) (first_in (is_in true m (term_bucket true m t)) i (set_rules rules) t)
+two_buckets m i rules t = either is_loose (is_in true m 0) (is_in true m (term_bucket true m t)) t parts i rules
   where
-    parts : (e : RuleEntry) (a : InstanceValue) → fit e t ≡ Some a → is_loose e ≡ (is_in true m 0 e || is_in true m (bucket_of m t) e)
-    parts e a h = by (is_settled e) (nat_eq (bucket_of m e.rule.left) 0) (nat_eq (bucket_of m e.rule.left) (bucket_of m t)) refl refl
+    parts : (x : SetRule) (a : InstanceValue) → fit (set_rule x) t ≡ Some a → is_loose (set_rule x) ≡ (is_in true m 0 (set_rule x) || is_in true m (term_bucket true m t) (set_rule x))
+    parts x a h = by (is_settled (set_rule x)) (nat_eq own 0) (nat_eq own (term_bucket true m t)) refl refl (loose_head x m t a h)
       where
-        by : (s b c : Bool) → nat_eq (bucket_of m e.rule.left) 0 ≡ b → nat_eq (bucket_of m e.rule.left) (bucket_of m t) ≡ c → not s ≡ ((not s && b) || (not s && c))
-        by true b c k l = refl
-        by false true c k l = refl
-        by false false true k l = refl
-        by false false false k l = let none : None ≡ Some a = sym (fit_apart e e.rule.left t refl (neither m e t k l)) ∙ h in absurd (cc)
+        abbrev own : ℕ
+        own = rule_bucket true m (set_rule x)
+
+        by : (s b c : Bool) → nat_eq own 0 ≡ b → nat_eq own (term_bucket true m t) ≡ c → (own ≡ 0) ⊎ (own ≡ term_bucket true m t) → not s ≡ ((not s && b) || (not s && c))
+        by true b c k l g = refl
+        by false true c k l g = refl
+        by false false true k l g = refl
+        by false false false k l (inl z) = sym (eq-eqb own 0 z) ∙ k
+        by false false false k l (inr z) = sym (eq-eqb own (term_bucket true m t) z) ∙ l
 
 -- what a search tells: x is what it found
 told : (x o : Option (ℕ × InstanceValue)) → MatchOption o (x ≡ None) (λ f. x ≡ Some (f.0, f.1)) → x ≡ o
@@ -146,29 +160,33 @@ found_both :
 found_both x y z a b o e first second is = tells z o (e ∙ (λ k. earlier (told x a first k) (told y b second k)) ∙ sym is)
 
 pub found_first :
-    (es : List RuleEntry) (t : Nameless) (a b o : Option (ℕ × InstanceValue)) → MatchOption a (first_in is_loose 0 es t ≡ None) (λ f. first_in is_loose 0 es t ≡ Some (f.0, f.1)) →
-    MatchOption b (first_in is_settled 0 es t ≡ None) (λ f. first_in is_settled 0 es t ≡ Some (f.0, f.1)) → o ≡ earlier a b → MatchOption o (first_fit 0 es t ≡ None) (λ f. first_fit 0 es t ≡ Some (f.0, f.1))
-found_first es t a b o first second is = found_both (first_in is_loose 0 es t) (first_in is_settled 0 es t) (first_fit 0 es t) a b o (loose_or_settled 0 es t) first second is
+    (rules : List SetRule) (t : Nameless) (a b o : Option (ℕ × InstanceValue)) → MatchOption a (first_in is_loose 0 (set_rules rules) t ≡ None) (λ f. first_in is_loose 0 (set_rules rules) t ≡ Some (f.0, f.1)) →
+    MatchOption b (first_in is_settled 0 (set_rules rules) t ≡ None) (λ f. first_in is_settled 0 (set_rules rules) t ≡ Some (f.0, f.1)) → o ≡ earlier a b →
+    MatchOption o (first_fit 0 (set_rules rules) t ≡ None) (λ f. first_fit 0 (set_rules rules) t ≡ Some (f.0, f.1))
+found_first rules t a b o first second is =
+    found_both (first_in is_loose 0 (set_rules rules) t) (first_in is_settled 0 (set_rules rules) t) (first_fit 0 (set_rules rules) t) a b o (loose_or_settled 0 rules t) first second is
 
 pub found_loose :
-    (m p : ℕ) (es : List RuleEntry) (t : Nameless) (a b o : Option (ℕ × InstanceValue)) → p ≡ bucket_of m t → MatchOption a (first_in (is_in true m 0) 0 es t ≡ None) (λ f. first_in (is_in true m 0) 0 es t ≡ Some (f.0, f.1)) →
-    MatchOption b (first_in (is_in true m p) 0 es t ≡ None) (λ f. first_in (is_in true m p) 0 es t ≡ Some (f.0, f.1)) → o ≡ earlier a b → MatchOption o (first_in is_loose 0 es t ≡ None) (λ f. first_in is_loose 0 es t ≡ Some (f.0, f.1))
-found_loose m p es t a b o at first second is =
-    found_both (first_in (is_in true m 0) 0 es t) (first_in (is_in true m p) 0 es t) (first_in is_loose 0 es t) a b o
-    (two_buckets m 0 es t ∙ ap (λ q. earlier (first_in (is_in true m 0) 0 es t) (first_in (is_in true m q) 0 es t)) (sym at)) first second is
+    (m p : ℕ) (rules : List SetRule) (t : Nameless) (a b o : Option (ℕ × InstanceValue)) → p ≡ term_bucket true m t →
+    MatchOption a (first_in (is_in true m 0) 0 (set_rules rules) t ≡ None) (λ f. first_in (is_in true m 0) 0 (set_rules rules) t ≡ Some (f.0, f.1)) →
+    MatchOption b (first_in (is_in true m p) 0 (set_rules rules) t ≡ None) (λ f. first_in (is_in true m p) 0 (set_rules rules) t ≡ Some (f.0, f.1)) → o ≡ earlier a b →
+    MatchOption o (first_in is_loose 0 (set_rules rules) t ≡ None) (λ f. first_in is_loose 0 (set_rules rules) t ≡ Some (f.0, f.1))
+found_loose m p rules t a b o at first second is =
+    found_both (first_in (is_in true m 0) 0 (set_rules rules) t) (first_in (is_in true m p) 0 (set_rules rules) t) (first_in is_loose 0 (set_rules rules) t) a b o
+    (two_buckets m 0 rules t ∙ ap (λ q. earlier (first_in (is_in true m 0) 0 (set_rules rules) t) (first_in (is_in true m q) 0 (set_rules rules) t)) (sym at)) first second is
 
 -- where the term has no head, one bucket is enough
-pub one_bucket : (m i : ℕ) (es : List RuleEntry) (t : Nameless) → bucket_of m t ≡ 0 → first_in is_loose i es t ≡ first_in (is_in true m 0) i es t
-one_bucket m i es t h = two_buckets m i es t ∙ ap (λ b. earlier (first_in (is_in true m 0) i es t) (first_in (is_in true m b) i es t)) h ∙ twice (first_in (is_in true m 0) i es t)
+pub one_bucket : (m i : ℕ) (rules : List SetRule) (t : Nameless) → term_bucket true m t ≡ 0 → first_in is_loose i (set_rules rules) t ≡ first_in (is_in true m 0) i (set_rules rules) t
+one_bucket m i rules t h = two_buckets m i rules t ∙ ap (λ b. earlier (first_in (is_in true m 0) i (set_rules rules) t) (first_in (is_in true m b) i (set_rules rules) t)) h ∙ twice (first_in (is_in true m 0) i (set_rules rules) t)
   where
     twice : (o : Option (ℕ × InstanceValue)) → earlier o o ≡ o
     twice None = refl
     twice (Some f) = at_both f.0 f.1
 
 -- ---- and whether all pass over is seen in the two
-pub passing_over : (m : ℕ) (es : List RuleEntry) (t : Nameless) → rules_pass_over es t ≡ (bucket_passes_over m 0 es t && bucket_passes_over m (bucket_of m t) es t)
+pub passing_over : (m : ℕ) (es : List RuleEntry) (t : Nameless) → rules_pass_over es t ≡ (bucket_passes_over m 0 es t && bucket_passes_over m (term_bucket false m t) es t)
 passing_over m [] t = refl
-passing_over m (e ∷ es) t = by (is_variable e.rule.left || not (may_match e.rule.left t)) (is_in false m 0 e) (is_in false m (bucket_of m t) e) refl refl refl (passing_over m es t)
+passing_over m (e ∷ es) t = by (is_variable e.rule.left || not (may_match e.rule.left t)) (is_in false m 0 e) (is_in false m (term_bucket false m t) e) refl refl refl (passing_over m es t)
   where
     rest : Bool
     rest = rules_pass_over es t
@@ -177,13 +195,13 @@ passing_over m (e ∷ es) t = by (is_variable e.rule.left || not (may_match e.ru
     mine = bucket_passes_over m 0 es t
 
     own : Bool
-    own = bucket_passes_over m (bucket_of m t) es t
+    own = bucket_passes_over m (term_bucket false m t) es t
 
     false_both : (x : Bool) → (x && false) ≡ false
     false_both true = refl
     false_both false = refl
 
-    by : (o b c : Bool) → (is_variable e.rule.left || not (may_match e.rule.left t)) ≡ o → is_in false m 0 e ≡ b → is_in false m (bucket_of m t) e ≡ c → rest ≡ (mine && own) → (o && rest) ≡ ((cond b o true && mine) && (cond c o true && own))
+    by : (o b c : Bool) → (is_variable e.rule.left || not (may_match e.rule.left t)) ≡ o → is_in false m 0 e ≡ b → is_in false m (term_bucket false m t) e ≡ c → rest ≡ (mine && own) → (o && rest) ≡ ((cond b o true && mine) && (cond c o true && own))
     by true true true h p q r = r
     by true true false h p q r = r
     by true false true h p q r = r
@@ -197,11 +215,11 @@ passing_over m (e ∷ es) t = by (is_variable e.rule.left || not (may_match e.ru
         clash false true k l = absurd (cc)
         clash false false k l = absurd (cc)
 
-pub passes_all : (m p : ℕ) (es : List RuleEntry) (t : Nameless) → p ≡ bucket_of m t → bucket_passes_over m 0 es t ≡ true → bucket_passes_over m p es t ≡ rules_pass_over es t
-passes_all m p es t at h = ap (λ q. bucket_passes_over m q es t) at ∙ sym (passing_over m es t ∙ ap (λ b. b && bucket_passes_over m (bucket_of m t) es t) h)
+pub passes_all : (m p : ℕ) (es : List RuleEntry) (t : Nameless) → p ≡ term_bucket false m t → bucket_passes_over m 0 es t ≡ true → bucket_passes_over m p es t ≡ rules_pass_over es t
+passes_all m p es t at h = ap (λ q. bucket_passes_over m q es t) at ∙ sym (passing_over m es t ∙ ap (λ b. b && bucket_passes_over m (term_bucket false m t) es t) h)
 
 pub passes_not : (m : ℕ) (es : List RuleEntry) (t : Nameless) → bucket_passes_over m 0 es t ≡ false → false ≡ rules_pass_over es t
-passes_not m es t h = sym (passing_over m es t ∙ ap (λ b. b && bucket_passes_over m (bucket_of m t) es t) h)
+passes_not m es t h = sym (passing_over m es t ∙ ap (λ b. b && bucket_passes_over m (term_bucket false m t) es t) h)
 
 -- ---- from one rule that passes a test to the next
 abbrev pub from : List SetRule → ℕ → List RuleEntry
@@ -340,15 +358,15 @@ NextFrom loose i m rules kept =
 
 -- a rule that is in a bucket
 module _ (loose : Bool) (m b : ℕ) (e : RuleEntry) where
-  in_bucket : is_in loose m b e ≡ true → bucket_of m e.rule.left ≡ b
-  in_bucket h = eqb-true (bucket_of m e.rule.left) b (and_parts (not (loose && is_settled e)) (nat_eq (bucket_of m e.rule.left) b) h).1
+  in_bucket : is_in loose m b e ≡ true → rule_bucket loose m e ≡ b
+  in_bucket h = eqb-true (rule_bucket loose m e) b (and_parts (not (loose && is_settled e)) (nat_eq (rule_bucket loose m e) b) h).1
 
   -- and one that is in none
   in_none : (loose && is_settled e) ≡ true → is_in loose m b e ≡ false
-  in_none h = ap (λ c. not c && nat_eq (bucket_of m e.rule.left) b) h
+  in_none h = ap (λ c. not c && nat_eq (rule_bucket loose m e) b) h
 
-  in_own : (loose && is_settled e) ≡ false → is_in loose m b e ≡ nat_eq (bucket_of m e.rule.left) b
-  in_own h = ap (λ c. not c && nat_eq (bucket_of m e.rule.left) b) h
+  in_own : (loose && is_settled e) ≡ false → is_in loose m b e ≡ nat_eq (rule_bucket loose m e) b
+  in_own h = ap (λ c. not c && nat_eq (rule_bucket loose m e) b) h
 
 -- the i-th rule is put in no bucket, where those from n on are in theirs
 module _ (loose : Bool) (rules : List SetRule) (n i : ℕ) (r : SetRule) (before : n ≡ i + 1) (l : i < length rules) (e : r ≡ get_or rules i r) (none : (loose && is_settled (set_rule r)) ≡ true) where
@@ -372,7 +390,7 @@ module _ (loose : Bool) (rules : List SetRule) (n i : ℕ) (r : SetRule) (before
           more j b q (omega (arith, after, apart, before)) k f is
 
 -- the i-th rule is put at the head of its bucket p, where those from n on are in theirs
-module _ (loose : Bool) (rules : List SetRule) (n i : ℕ) (r : SetRule) (first : List ℕ) (p : ℕ) (before : n ≡ i + 1) (l : i < length rules) (e : r ≡ get_or rules i r) (some : (loose && is_settled (set_rule r)) ≡ false) (place : p ≡ bucket_of (length first) (set_rule r).rule.left) (within : p < length first) (those : FirstFrom loose n rules first) where
+module _ (loose : Bool) (rules : List SetRule) (n i : ℕ) (r : SetRule) (first : List ℕ) (p : ℕ) (before : n ≡ i + 1) (l : i < length rules) (e : r ≡ get_or rules i r) (some : (loose && is_settled (set_rule r)) ≡ false) (place : p ≡ rule_bucket loose (length first) (set_rule r)) (within : p < length first) (those : FirstFrom loose n rules first) where
   are : FirstFrom loose (i + 1) rules first
   are = subst (λ k. FirstFrom loose k rules first) before those
 
@@ -403,7 +421,7 @@ module _ (loose : Bool) (rules : List SetRule) (n i : ℕ) (r : SetRule) (first 
       by true h =
           let at : i ≡ j = eqb-true i j h in
           let one : r ≡ q = e ∙ get_or_default rules i r q l ∙ ap (λ n. get_or rules n q) at ∙ sym f in
-          let bucket : p ≡ b = place ∙ ap (λ x. bucket_of (length first) (set_rule x).rule.left) one ∙ in_bucket loose (length first) b (set_rule q) is in
+          let bucket : p ≡ b = place ∙ ap (λ x. rule_bucket loose (length first) (set_rule x)) one ∙ in_bucket loose (length first) b (set_rule q) is in
           ap (λ n. get_or (set kept i (get_or first p 0)) n 0) (sym at) ∙ get_or-set_same kept i (get_or first p 0) 0 k ∙ are p within
           ∙ (λ z. next_in (is_in loose (length first) (bucket z)) (at z + 1) (from rules (at z + 1)))
       by false h =
@@ -415,11 +433,11 @@ pub kept_length : (c : Bool) (kept new : List ℕ) (i x : ℕ) → new ≡ cond 
 kept_length true kept new i x is = ap length is
 kept_length false kept new i x is = ap length is ∙ length-set kept i x
 
-module _ (loose : Bool) (rules : List SetRule) (n i : ℕ) (r : SetRule) (first : List ℕ) (before : n ≡ i + 1) (l : i < length rules) (e : r ≡ get_or rules i r) (within : bucket_of (length first) (set_rule r).rule.left < length first) (those : FirstFrom loose n rules first) where
+module _ (loose : Bool) (rules : List SetRule) (n i : ℕ) (r : SetRule) (first : List ℕ) (before : n ≡ i + 1) (l : i < length rules) (e : r ≡ get_or rules i r) (within : rule_bucket loose (length first) (set_rule r) < length first) (those : FirstFrom loose n rules first) where
   abbrev own : ℕ
-  own = bucket_of (length first) (set_rule r).rule.left
+  own = rule_bucket loose (length first) (set_rule r)
 
-  pub first_step : (new : List ℕ) → new ≡ cond (loose && is_settled (set_rule r)) first (set first (bucket_of (length first) (set_rule r).rule.left) i) → FirstFrom loose i rules new
+  pub first_step : (new : List ℕ) → new ≡ cond (loose && is_settled (set_rule r)) first (set first (rule_bucket loose (length first) (set_rule r)) i) → FirstFrom loose i rules new
   first_step new is = subst (FirstFrom loose i rules) (sym is) (by (loose && is_settled (set_rule r)) refl)
     where
       by : (b : Bool) → (loose && is_settled (set_rule r)) ≡ b → FirstFrom loose i rules (cond b first (set first own i))
@@ -428,7 +446,7 @@ module _ (loose : Bool) (rules : List SetRule) (n i : ℕ) (r : SetRule) (first 
 
   pub next_step :
       (kept new : List ℕ) → i < length kept → NextFrom loose n (length first) rules kept →
-      new ≡ cond (loose && is_settled (set_rule r)) kept (set kept i (get_or first (bucket_of (length first) (set_rule r).rule.left) 0)) → NextFrom loose i (length first) rules new
+      new ≡ cond (loose && is_settled (set_rule r)) kept (set kept i (get_or first (rule_bucket loose (length first) (set_rule r)) 0)) → NextFrom loose i (length first) rules new
   next_step kept new k more is = subst (NextFrom loose i (length first) rules) (sym is) (by (loose && is_settled (set_rule r)) refl)
     where
       by : (b : Bool) → (loose && is_settled (set_rule r)) ≡ b → NextFrom loose i (length first) rules (cond b kept (set kept i (get_or first own 0)))

@@ -1,10 +1,10 @@
 -- Rules whose left sides have only variables and type variables that stay: they match a term that is the left side up to bound names, and no other.
-use Rattle.std.proofs.Common.{◌≡◌, ℕ, suc, ◌+◌, ◌<◌, ◌≤◌, List, [], ◌∷◌, map, length, drop, get_or, refl, sym, ap, ◌∙◌, subst, Bool, true, false, cond, ◌&&◌, ◌||◌, bytes_eq, Option, Some, None, IfSome, arith}
+use Rattle.std.proofs.Common.{◌≡◌, ◌⊎◌, inl, inr, ℕ, zero, suc, ◌+◌, ◌%◌, ◌<◌, ◌≤◌, List, [], ◌∷◌, map, length, drop, get_or, refl, sym, ap, ◌∙◌, subst, Bool, true, false, cond, ◌&&◌, ◌||◌, bytes_eq, Option, Some, None, IfSome, arith}
 use Rattle.std.specs.BTreeMap.{BTreeMap, get, IsEmpty, Updates}
 use Rattle.std.specs.Cmp.{Equal-is}
 use Rattle.std.specs.List.{list_all}
 use Rattle.std.specs.Map.{lookup}
-use Rattle.std.specs.Option.{option_map}
+use Rattle.std.specs.Option.{option_map, option_and_then}
 use Rattle.std.specs.Ordering.{is_eq}
 use Rattle.std.proofs.lemmas.Bool.{or_left, or_right}
 use Rattle.std.proofs.lemmas.List.{drop_all}
@@ -28,14 +28,15 @@ use Rattle.hol_subst.proofs.Commute.{subst_agree, subst_nothing}
 use Rattle.hol_subst.proofs.InstSteps.{all_there}
 use Rattle.hol_match.specs.Fixed.{all_stay, stays}
 use Rattle.hol_match.specs.Instance.{InstanceValue, instance_of, instantiated, staying, both}
-use Rattle.hol_match.specs.Matching.{matched}
+use Rattle.hol_match.specs.Matching.{matched, with_type}
 use Rattle.hol_match.specs.Matches.{GivesTypes, GivesTerms, IsMatch}
 use Rattle.hol_match.specs.Opening.{has_type_var}
 use Rattle.hol_match.specs.RuleSets.{beside, fit, or_later}
-use Rattle.hol_match.specs.Heads.{is_settled, first_in, first_settled}
-use Rattle.hol_match.specs.HeadView.{side_cmp, ArePlaces}
+use Rattle.hol_match.specs.Heads.{name_number, head_bucket, bucket_of, rule_bucket, term_bucket, is_settled, first_in, first_settled}
+use Rattle.hol_match.specs.HeadView.{side_cmp, ArePlaces, is_known}
 use Rattle.hol_match.specs.SetView.{set_rule, set_rules}
 use Rattle.hol_match.specs.declared.set_rule.SetRule.{SetRule}
+use Rattle.hol_match.specs.declared.fixed.Fixed.{Fixed}
 use Rattle.hol_match.specs.declared.side.Side.{Side}
 use Rattle.hol_match.proofs.Keeping.{term_has}
 use Rattle.hol_match.proofs.RuleSets.{fit_none}
@@ -136,6 +137,11 @@ module _ (names : List (List ℕ)) (vs : List Var) (p : Nameless) (h : all_stay 
       by None e g = refl
       by (Some all) e g = absurd (other (match_is t g.0 (most_general names vs p t g.0 (e ∙ ap (λ q. Some q) g.1)).fits))
 
+  match_same : (t : Nameless) (all : InstanceValue) → matched 0 p (staying names vs) t ≡ Some all → strip p ≡ strip t
+  match_same t all e =
+      let g : AddsTo (staying names vs) (Some all) = subst (AddsTo (staying names vs)) e (matched_adds 0 p (staying names vs) t) in
+      match_is t g.0 (most_general names vs p t g.0 (e ∙ ap (λ q. Some q) g.1)).fits
+
   -- and the term itself is matched
   types_left : (ns : List (List ℕ)) → GivesTypes (instance_of [] []) (map (λ n. (TyVar n, n)) ns)
   types_left [] = tt
@@ -150,6 +156,41 @@ module _ (names : List (List ℕ)) (vs : List Var) (p : Nameless) (h : all_stay 
       let whole : instantiated (instance_of [] []) 0 p ≡ p = ap (term_subst [] 0) (inst_kept [] p (λ c k. refl)) ∙ subst_nothing 0 p in
       subst (Tells (λ σ. Makes σ 0 p t) (staying names vs)) none (matched_tells 0 p (staying names vs) t) (instance_of [] []) (λ v. refl) (types_left names, terms_left vs)
       (ap strip whole ∙ same)
+
+-- ---- a variable that stays at the head of a pattern is at that of the term
+module _ (names : List (List ℕ)) (vs : List Var) (m : ℕ) where
+  own_head : (p t : Nameless) (all : InstanceValue) (k : ℕ) → matched 0 p (staying names vs) t ≡ Some all → (head_bucket (λ v. all_stay names vs (free v)) m p k ≡ 0) ⊎ (head_bucket (λ v. all_stay names vs (free v)) m p k ≡ head_bucket (λ v. true) m t k)
+  own_head (free v) t all k h = by (all_stay names vs (free v)) refl
+    where
+      by : (b : Bool) → all_stay names vs (free v) ≡ b → (cond (all_stay names vs (free v)) (name_number 0 v.0 % m) 0 ≡ 0) ⊎ (cond (all_stay names vs (free v)) (name_number 0 v.0 % m) 0 ≡ head_bucket (λ w. true) m t k)
+      by false e = inl (ap (λ c. cond c (name_number 0 v.0 % m) 0) e)
+      by true e =
+          let same : t ≡ free v = free_strip t v (sym (match_same names vs (free v) e t all h)) in
+          inr (ap (λ c. cond c (name_number 0 v.0 % m) 0) e ∙ sym (ap (λ n. head_bucket (λ w. true) m n k) same))
+  own_head (bound i) t all k h = inl refl
+  own_head (lam a s b) t all k h = inl refl
+  own_head (fixed c s) (free v) all k h = absurd (cc)
+  own_head (fixed c s) (bound i) all k h = absurd (cc)
+  own_head (fixed c s) (app f x) all k h = absurd (cc)
+  own_head (fixed c s) (lam a u b) all k h = absurd (cc)
+  own_head (fixed c s) (fixed d u) all k h = by (bytes_eq c d) refl h
+    where
+      by : (b : Bool) → bytes_eq c d ≡ b → cond b (with_type s (staying names vs) u) None ≡ Some all → (name_number 0 c % m ≡ 0) ⊎ (name_number 0 c % m ≡ name_number 0 d % m)
+      by true e g = inr (ap (λ (n : List ℕ). name_number 0 n % m) ((bytes_eq-Decides c d).0 e))
+      by false e g = absurd (cc)
+  own_head (app p q) (free v) all k h = absurd (cc)
+  own_head (app p q) (bound i) all k h = absurd (cc)
+  own_head (app p q) (fixed c s) all k h = absurd (cc)
+  own_head (app p q) (lam a s b) all k h = absurd (cc)
+  own_head (app p q) (app f x) all zero h = inl refl
+  own_head (app p q) (app f x) all (suc k) h = by (matched 0 p (staying names vs) f) refl h (λ more e. own_head p f more k e)
+    where
+      abbrev Meets : Type 0
+      Meets = (head_bucket (λ v. all_stay names vs (free v)) m p k ≡ 0) ⊎ (head_bucket (λ v. all_stay names vs (free v)) m p k ≡ head_bucket (λ v. true) m f k)
+
+      by : (o : Option InstanceValue) → matched 0 p (staying names vs) f ≡ o → option_and_then (λ more. matched 0 q more x) o ≡ Some all → ((more : InstanceValue) → matched 0 p (staying names vs) f ≡ Some more → Meets) → Meets
+      by None e g rest = absurd (cc)
+      by (Some more) e g rest = rest more e
 
 -- ---- of rules
 only_names : (names : List (List ℕ)) → map (λ (p : TypeTree × List ℕ). p.1) (map (λ n. (TyVar n, n)) names) ≡ names
@@ -184,6 +225,33 @@ module _ (r : SetRule) (t : Nameless) (all : is_settled (set_rule r) ≡ true) w
       by : (o : Option InstanceValue) → option_map (beside (stays r.source.value.fixed)) o ≡ None → o ≡ None
       by None e = refl
       by (Some a) e = absurd (cc)
+
+pub loose_head : (r : SetRule) (m : ℕ) (t : Nameless) (a : InstanceValue) → fit (set_rule r) t ≡ Some a → (rule_bucket true m (set_rule r) ≡ 0) ⊎ (rule_bucket true m (set_rule r) ≡ term_bucket true m t)
+loose_head r m t a h = by (matched 0 (set_rule r).rule.left (stays r.source.value.fixed) t) refl h
+  where
+    names : List (List ℕ)
+    names = r.source.value.fixed.names.items
+
+    vs : List Var
+    vs = r.source.value.fixed.variables.items
+
+    same : rule_bucket true m (set_rule r) ≡ bucket_of (λ v. all_stay names vs (free v)) m (set_rule r).rule.left
+    same = λ i. bucket_of (λ v. all_stay (only_names names i) (only_variables vs i) (free v)) m (set_rule r).rule.left
+
+    to : (bucket_of (λ v. all_stay names vs (free v)) m (set_rule r).rule.left ≡ 0) ⊎ (bucket_of (λ v. all_stay names vs (free v)) m (set_rule r).rule.left ≡ term_bucket true m t) → (rule_bucket true m (set_rule r) ≡ 0) ⊎ (rule_bucket true m (set_rule r) ≡ term_bucket true m t)
+    to (inl e) = inl (same ∙ e)
+    to (inr e) = inr (same ∙ e)
+
+    by : (o : Option InstanceValue) → matched 0 (set_rule r).rule.left (stays r.source.value.fixed) t ≡ o → option_map (beside (stays r.source.value.fixed)) o ≡ Some a → (rule_bucket true m (set_rule r) ≡ 0) ⊎ (rule_bucket true m (set_rule r) ≡ term_bucket true m t)
+    by None e g = absurd (cc)
+    by (Some all) e g = to (own_head names vs m (set_rule r).rule.left t all 16 e)
+
+-- what the program finds of the left side
+pub rule_known : (r : SetRule) (m : ℕ) (f : Fixed) (b : ℕ) → stays f ≡ (set_rule r).stays → b ≡ head_bucket (is_known f) m (set_rule r).rule.left 16 → b ≡ rule_bucket true m (set_rule r)
+rule_known r m f b e h =
+    h
+    ∙ (λ i. head_bucket (λ v. all_stay (sym (only_names f.names.items) i) (sym (only_variables f.variables.items) i) (free v)) m (set_rule r).rule.left 16)
+    ∙ ap (λ (s : InstanceValue). head_bucket (λ v. all_stay (map (λ p. p.1) s.types) (map (λ p. p.1) s.terms) (free v)) m (set_rule r).rule.left 16) e
 
 -- ---- the first of them
 first_is : (r : SetRule) (rules : List SetRule) (i : ℕ) (t : Nameless) → is_settled (set_rule r) ≡ true → is_eq (alpha_cmp (set_rule r).rule.left t) ≡ true → first_in is_settled i (set_rules (r ∷ rules)) t ≡ option_map (λ a. (i, a)) (fit (set_rule r) t)

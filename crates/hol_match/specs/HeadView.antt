@@ -2,8 +2,11 @@
 use Rattle.std.specs.Prelude.{◌≡◌, ℕ, ◌+◌, ◌<◌, List, [], length, get_or, drop, Bool, true}
 use Rattle.std.specs.declared.cmp.Ordering.{Ordering}
 use Rattle.std.specs.BTreeMap.{BTreeMap, get}
-use Rattle.hol_terms.specs.Nameless.{nameless}
+use Rattle.hol_types.specs.Tree.{TypeTree}
+use Rattle.hol_terms.specs.Nameless.{nameless, free}
 use Rattle.hol_subst.specs.AlphaOrder.{alpha_cmp}
+use Rattle.hol_match.specs.Fixed.{all_stay}
+use Rattle.hol_match.specs.declared.fixed.Fixed.{Fixed}
 use Rattle.hol_match.specs.Heads.{is_in, next_in, first_settled}
 use Rattle.hol_match.specs.SetView.{set_rule, set_rules}
 use Rattle.hol_match.specs.declared.set_rule.SetRule.{SetRule}
@@ -26,3 +29,7 @@ side_cmp a b = alpha_cmp (nameless [] a.term) (nameless [] b.term)
 -- at each side the number of the first rule of which all stays that has it
 abbrev pub ArePlaces : List SetRule → BTreeMap Side ℕ → Type 0
 ArePlaces rules places = (q : Side) → get side_cmp places q ≡ first_settled 0 (set_rules rules) (nameless [] q.term)
+
+-- the variable and its type variables are among those that stay
+abbrev pub is_known : Fixed → List ℕ × TypeTree → Bool
+is_known f v = all_stay f.names.items f.variables.items (free v)

@@ -1,9 +1,10 @@
--- Rules in buckets by the constants at the heads of their left sides, so that a term is tried with those of its head's bucket, and with those
+-- Rules in buckets by the constants at the heads of their left sides, or by the variables that stay there, so that a term is tried with those of its head's bucket, and with those
 -- of bucket 0, where all without a head are. Rules of whose left sides all stays match what is such a side up to bound names, so these are
 -- found by the order of terms and tried in no bucket. Only private clauses speak of these.
 -- Source: this project.
 use Rattle.std.specs.Prelude.{ℕ, zero, suc, ◌+◌, ◌*◌, ◌%◌, List, [], ◌∷◌, map, Bool, true, false, cond, not, ◌&&◌, ◌||◌, nat_eq, nat_lt, Option, Some, None}
 use Rattle.std.specs.Ordering.{is_eq}
+use Rattle.hol_types.specs.Tree.{TypeTree}
 use Rattle.hol_terms.specs.Nameless.{Nameless, free, bound, fixed, app, lam}
 use Rattle.hol_subst.specs.AlphaOrder.{alpha_cmp}
 use Rattle.hol_match.specs.Fixed.{all_stay}
@@ -16,17 +17,17 @@ abbrev pub name_number : ℕ → List ℕ → ℕ
 name_number n [] = n
 name_number n (x ∷ xs) = name_number ((31 * n + x) % 16777216) xs
 
--- the bucket, of m, of the constant at the term's head, if there is one and it has at most k arguments
-abbrev pub head_bucket : ℕ → Nameless → ℕ → ℕ
-head_bucket m (free v) k = 0
-head_bucket m (bound i) k = 0
-head_bucket m (fixed c s) k = name_number 0 c % m
-head_bucket m (app f x) zero = 0
-head_bucket m (app f x) (suc k) = head_bucket m f k
-head_bucket m (lam a s b) k = 0
+-- the bucket, of m, of the constant at the term's head, or of the variable there if that is known, if it has at most k arguments
+abbrev pub head_bucket : (List ℕ × TypeTree → Bool) → ℕ → Nameless → ℕ → ℕ
+head_bucket known m (free v) k = cond (known v) (name_number 0 v.0 % m) 0
+head_bucket known m (bound i) k = 0
+head_bucket known m (fixed c s) k = name_number 0 c % m
+head_bucket known m (app f x) zero = 0
+head_bucket known m (app f x) (suc k) = head_bucket known m f k
+head_bucket known m (lam a s b) k = 0
 
-abbrev pub bucket_of : ℕ → Nameless → ℕ
-bucket_of m t = head_bucket m t 16
+abbrev pub bucket_of : (List ℕ × TypeTree → Bool) → ℕ → Nameless → ℕ
+bucket_of known m t = head_bucket known m t 16
 
 -- all of the rule's left side stays
 abbrev pub is_settled : RuleEntry → Bool
@@ -36,11 +37,23 @@ is_settled e = all_stay (map (λ p. p.1) e.stays.types) (map (λ p. p.1) e.stays
 abbrev pub is_loose : RuleEntry → Bool
 is_loose e = not (is_settled e)
 
+-- the variable stays in the rule, with its type variables
+abbrev pub stays_in : RuleEntry → List ℕ × TypeTree → Bool
+stays_in e v = all_stay (map (λ p. p.1) e.stays.types) (map (λ p. p.1) e.stays.terms) (free v)
+
 -- ---- the rules of one bucket
+
+-- the bucket of a rule; in the loose buckets the variables that stay in it are known
+abbrev pub rule_bucket : Bool → ℕ → RuleEntry → ℕ
+rule_bucket loose m e = bucket_of (λ v. loose && stays_in e v) m e.rule.left
+
+-- and that of what such a rule matches
+abbrev pub term_bucket : Bool → ℕ → Nameless → ℕ
+term_bucket loose m t = bucket_of (λ v. loose) m t
 
 -- the rule is in bucket b, of m; in the loose buckets are only those of which something doesn't stay
 abbrev pub is_in : Bool → ℕ → ℕ → RuleEntry → Bool
-is_in loose m b e = not (loose && is_settled e) && nat_eq (bucket_of m e.rule.left) b
+is_in loose m b e = not (loose && is_settled e) && nat_eq (rule_bucket loose m e) b
 
 -- the number of the first of these rules that passes the test, the first of all having number i; the number after all where none does
 abbrev pub next_in : (RuleEntry → Bool) → ℕ → List RuleEntry → ℕ

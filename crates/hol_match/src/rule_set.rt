@@ -117,7 +117,7 @@ impl RuleSet {
         ensures fits { IfOk result (λ found. IfSome found (λ f. IsFit (set_rules self.now.rules.items) (nameless [] t.now) (f.0, f.1))) }
     {
         let beside = self.first_in(alloc, 0, t)?;
-        let bucket = self.loose.bucket_of(t);
+        let bucket = self.loose.bucket_of(t, true);
         if bucket == 0 {
             return Ok(beside);
         }
@@ -233,7 +233,7 @@ impl RuleSet {
     pub fn passes_over(&self, t: &Term) -> bool
         ensures { result ≡ rules_pass_over (set_rules self.now.rules.items) (nameless [] t.now) }
     {
-        let bucket = self.heads.bucket_of(t);
+        let bucket = self.heads.bucket_of(t, false);
         self.bucket_passes_over(0, t) && self.bucket_passes_over(bucket, t)
     }
 

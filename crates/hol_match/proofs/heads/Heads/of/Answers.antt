@@ -1,5 +1,5 @@
 use Rattle.std.proofs.Common.{◌≡◌, ◌+◌, ◌-◌, ◌<◌, ◌∙◌, ◌&&◌, length, get_or, sym, subst, arith}
-use Rattle.hol_match.specs.Heads.{bucket_of, is_settled}
+use Rattle.hol_match.specs.Heads.{rule_bucket, is_settled}
 use Rattle.hol_match.specs.SetView.{set_rule}
 use Rattle.hol_match.proofs.Buckets.{NextFrom, kept_length, first_step, next_step}
 use Rattle.hol_match.proofs.heads.Heads.of.Goals as goal
@@ -15,13 +15,13 @@ rules-preserved c =
     let F = c.rules.invariant.first in
     let before : c.rules.left ≡ i + 1 = omega arith in
     let within : i < length R = omega (arith, c.rules.invariant.within) in
-    let first = c.put_rule.ensures.first in
+    let first = c.in_ok-put_rule.ensures.first in
     let bucket = c.put_rule.ensures.bucket in
     let new = c.put_rule.new.self in
-    let own = bucket_of (length H.first.items) (set_rule r).rule.left in
+    let own = rule_bucket L (length H.first.items) (set_rule r) in
     let left_out = L && is_settled (set_rule r) in
     let long : length new.first.items ≡ length H.first.items = kept_length left_out H.first.items new.first.items own i first in
-    let long_next : length new.next.items ≡ length H.next.items = kept_length left_out H.next.items new.next.items i (get_or H.first.items own 0) c.put_rule.ensures.next in
+    let long_next : length new.next.items ≡ length H.next.items = kept_length left_out H.next.items new.next.items i (get_or H.first.items own 0) c.in_ok-put_rule.ensures.next in
     record {
       some = omega (arith, long, c.rules.invariant.some);
       long = long_next ∙ c.rules.invariant.long;
@@ -29,5 +29,5 @@ rules-preserved c =
       first = first_step L R c.rules.left i r H.first.items before within c.index-rules-left.is bucket F new.first.items first;
       next =
           subst (λ m. NextFrom L i m R new.next.items) (sym long)
-          (next_step L R c.rules.left i r H.first.items before within c.index-rules-left.is bucket F H.next.items new.next.items (omega (arith, within, c.rules.invariant.long)) c.rules.invariant.next c.put_rule.ensures.next);
+          (next_step L R c.rules.left i r H.first.items before within c.index-rules-left.is bucket F H.next.items new.next.items (omega (arith, within, c.rules.invariant.long)) c.rules.invariant.next c.in_ok-put_rule.ensures.next);
     }
