@@ -4,12 +4,13 @@
     python3 bench/library.py [--record FILE] [--all] [--write]
     python3 bench/library.py --program PATH [--rounds N] [--dear N]
 
-The first needs HOL Light (Debian: apt-get install hol-light libnum-ocaml-dev), which is loaded with the files of FILES in some minutes. Each theorem that a
-file of it names is looked up in theories/; where the name stands, HOL Light's own parser reads our statement, with our names of constants, and its `aconv`
-compares it with the theorem, free variables quantified outside, in the order of their first places, and type variables numbered. HOL Light's sets {x | p}
-and functions of pairs are first written as theories/README.md says, and its numerals without NUMERAL. With --record the theorems are those of a recorded
-run, as `holls import` makes one (docs/EDITORS.md), which takes seconds: there the terms are compared, with their types, as holls.exchange.neutral
-translates HOL Light's. It prints a table by file, and with --all the statements that differ, ours and HOL Light's; --write puts the table into
+The first needs HOL Light (Debian: apt-get install hol-light libnum-ocaml-dev), which is loaded with the files of FILES, without the proofs of what they
+state before they prove it, as only statements are compared: that takes a minute or two in place of many. Each theorem that a file of it names is looked up
+in theories/; where the name stands, HOL Light's own parser reads our statement, with our names of constants, and its `aconv` compares it with the theorem,
+free variables quantified outside, in the order of their first places, and type variables numbered. HOL Light's sets {x | p} and functions of pairs are
+first written as theories/README.md says, and its numerals without NUMERAL. With --record the theorems are those of a recorded run, as `holls import` makes
+one (docs/EDITORS.md), which takes seconds: there the terms are compared, with their types, as holls.exchange.neutral translates HOL Light's. It prints a
+table by file, and with --all the statements that differ, ours and HOL Light's, and the names that are missing; --write puts the table into
 theories/README.md. The status is 1 where a statement differs that isn't in ALLOWED.
 
 The second measures the program PATH, crates/hol_serve/out/hol_serve: the library from nothing, and a change of a step in the middle of logic.hol whose
@@ -60,9 +61,13 @@ ABOUT_OTHERS = ("real", "hreal", "nadd", "treal", "complex", "cart", "finite_ima
 INTEGERS = "int.ml, of integers"
 """The row of theorems about integers, which stand in a file among others."""
 BEGIN, END = "<!-- Made by bench/library.py --write, from here -->", "<!-- to here. -->"
+PROVED = re.compile(r"\bprove(\)?\s*\(\s*)(?=`)")
+RULED = re.compile(r"^(let [A-Za-z0-9_']+ =\s*)(?:REAL_ARITH|INT_ARITH|ARITH_RULE|INTEGER_RULE|NUMBER_RULE|TAUT)\s*(`[^`]*`);;", re.M)
+"""How HOL Light's files prove a theorem that they state: by `prove`, up to what it states; or by a rule, whole."""
 SCRIPT = r"""
 let kept = ref ([] : (string * string * thm) list);;
 let keep file name th = kept := (file,name,th) :: !kept;;
+let as_stated tm = mk_thm([],tm);;
 """
 COMPARING = r"""
 let rec plain tm = match tm with
@@ -151,6 +156,7 @@ class Row:
     names: int = 0
     same: list = dataclasses.field(default_factory=list)
     differs: list = dataclasses.field(default_factory=list)
+    missing: list = dataclasses.field(default_factory=list)
 
     def line(self, file):
         stand = len(self.same) + len(self.differs)
@@ -162,24 +168,56 @@ def readable(statement):
     return re.sub(r"(?<![\w'])_1(?![\w'])", "( BIT1 _0 )", spaced(statement, TYPES))
 
 
-def script(theories):
-    """The lines that load HOL Light, keep the theorems of each file, and compare them with ours at the end: what goes before the first, and the rest."""
+def script(theories, room):
+    """The lines that load HOL Light, keep the theorems of each file, and compare them with ours at the end: what goes before the first, and the rest. Files
+    whose proofs are passed over are put into a folder."""
     first, rest = [], []
     for line in pathlib.Path(HOL_LIGHT, "hol.ml").read_text(encoding="utf-8").splitlines(keepends=True):
-        (rest if rest else first).append(line)
         loaded = re.match(r'loads "(.*)";;', line)
-        if loaded and loaded.group(1) == "equal.ml":
+        if not rest or not loaded:
+            (rest if rest else first).append(line)
+        else:
+            rest += stated(loaded.group(1), room)
+        if loaded and loaded.group(1) == "simp.ml":
             rest.append(SCRIPT)
-        if loaded and loaded.group(1) in FILES:
-            rest += kept(loaded.group(1))
         if loaded and loaded.group(1) == "define.ml":
             break
     for file in FILES:
         if file.startswith("Library/"):
-            rest += [f'loadt "{file}";;\n', *kept(file)]
+            rest += stated(file, room)
     ours = ";\n".join(f"{string(name)},{string(readable(text))}" for name, text in theories.statements.items())
     called = "".join(f"called ({string(our)},{string(their)});;\n" for our, their in NAMES.items())
     return "".join(first), "".join(rest) + COMPARING + called + f"compare_all [{ours}];;\n"
+
+
+def stated(file, room):
+    """The lines that load a file without its proofs, and keep its theorems if it is in the table."""
+    path = pathlib.Path(room, file.replace("/", "_"))
+    path.write_text(without_proofs(pathlib.Path(HOL_LIGHT, file).read_text(encoding="latin-1")), encoding="latin-1")
+    return [f'loadt "{path}";;\n', *(kept(file) if file in FILES else ())]
+
+
+def without_proofs(text):
+    """A file of HOL Light's in which the theorems that it proves by `prove` or a rule, each by itself, are taken as they are stated: proofs take minutes."""
+    text, made, at = re.sub(r'^needs ".*";;', "", text, flags=re.M), [], 0  # Those would load files with their proofs.
+    for found in PROVED.finditer(text):
+        if found.start() >= at:
+            end = text.index("`", found.end() + 1) + 1
+            made += [text[at:found.start()], "as_stated", found.group(1), text[found.end():end], ")"]
+            at = closing(text, end)
+    return RULED.sub(r"\1as_stated \2;;", "".join(made) + text[at:])
+
+
+def closing(text, at):
+    """The place behind the bracket that closes the one that is open at a place of OCaml's."""
+    depth, comments = 1, 0
+    for found in re.compile(r'\(\*|\*\)|`[^`]*`|"(?:[^"\\]|\\.)*"|[()]', re.S).finditer(text, at):
+        token = found.group()
+        comments += (token == "(*") - (token == "*)")
+        depth += 0 if comments else (token == "(") - (token == ")")
+        if not depth:
+            return found.end()
+    return len(text)
 
 
 def kept(file):
@@ -190,8 +228,8 @@ def kept(file):
 
 def hol_light(theories):
     """What HOL Light prints when it has compared all."""
-    before, rest = script(theories)
     with tempfile.TemporaryDirectory() as room:
+        before, rest = script(theories, room)
         pathlib.Path(room, "init.ml").write_text(before, encoding="utf-8")
         done = subprocess.run([f"{HOL_LIGHT}/ocaml", "-noprompt", "-init", f"{room}/init.ml"], input=rest, stdout=subprocess.PIPE,
                               stderr=subprocess.STDOUT, encoding="utf-8", errors="replace", check=False)
@@ -281,7 +319,9 @@ def rows(told_of_all):
         row.names += 1
         if told == "same":
             row.same.append(name)
-        elif told != "missing":
+        elif told == "missing":
+            row.missing.append(name)
+        else:
             row.differs.append(name)
             others[name] = told
     return found, others
@@ -315,6 +355,8 @@ def compare(theories, record, is_all, is_written):
     print(table(found))
     for name, told in others.items() if is_all else ():
         print(f"\n{name}: {told}\n  here       {theories.statements[name]}")
+    for file, row in found.items() if is_all else ():
+        print(f"\nmissing of {file}: {', '.join(row.missing) or 'nothing'}")
     if is_written:
         before, rest = page.read_text(encoding="utf-8").split(BEGIN, 1)
         page.write_text(f"{before}{BEGIN}\n\n{table(found)}\n\n{END}{rest.split(END, 1)[1]}", encoding="utf-8")
