@@ -31,7 +31,7 @@ class Declarations:
         pick, name = self.random, self.name("ty")
         parameters = pick.choice(([], [], ["A"], ["A", "B"]))
         made = []
-        for at in range(pick.choice([number for number in (1, 2, 2, 3, 3, 4, 5, 6, 9) if number <= most])):
+        for at in range(pick.choice([number for number in (1, 2, 2, 3, 3, 4, 5, 6, 9, 24) if number <= most])):
             made.append((self.name("C"), [self.argument(at, parameters) for _ in range(pick.choice((0, 0, 1, 1, 2, 2, 3, 4)))]))
         used = [one for one in parameters if any(text == one for _, arguments in made for _, text in arguments)]
         own = " ".join(filter(None, ["(%s)" % ",".join(used) if len(used) > 1 else "".join(used), name]))
@@ -54,7 +54,7 @@ class Declarations:
 
     def type(self):
         """A type."""
-        return [self.declared(*self.constructors())]
+        return [self.declared(*self.constructors(24))]
 
     def record(self):
         """A record, or one with a parameter."""

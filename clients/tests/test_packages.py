@@ -5,6 +5,7 @@ import os
 import pathlib
 import re
 import tempfile
+import time
 import unittest
 from contextlib import redirect_stdout
 
@@ -16,6 +17,7 @@ from holls.lsp import features, hovering, lookup
 from holls.packages import forward
 from holls.packages.parts import Part
 from holls.protocol import Goals, Made, Refusal
+from holls.prover.asking import Asker
 from tests.helpers import BUILT, ROOT
 from tests.random_declarations import Declarations, corrected, text
 
@@ -508,6 +510,12 @@ def checked(text, *words):
         return status, said.getvalue()
 
 
+def _many(number):
+    """So many constructors with arguments."""
+    kinds = ("K%d num", "K%d num many", "K%d many many", "K%d A (many list)", "K%d")
+    return " | ".join(kinds[at % 5] % at for at in range(number))
+
+
 @unittest.skipUnless(BUILT.is_file(), "hol_serve isn't built")
 class OverTheProgram(unittest.TestCase):
     def test_all_is_accepted_and_sorry_fails(self):
@@ -541,12 +549,36 @@ class OverTheProgram(unittest.TestCase):
         for name in ("COLOURS", "exp_RECURSION", "exp_INJECTIVE", "tree_DISTINCT", "VAL", "GCD", "CHOOSE", "FIB", "MAJ", "STAR_CASES", "EV_STRONG_INDUCT", "point_EXT", "TURNED", "RULED"):
             self.assertNotIn("axiom", rests[name])
 
+    def test_types_are_made_soon(self):
+        """Expanded and run, in seconds of the processor, with twice the time that is wanted, since what else it does costs too."""
+        program = Asker([str(BUILT)], 300.0)
+        self.addCleanup(program.stop)
+        for file in library():
+            program.add(file.name, [entry.sent for entry in file.theory.entries])
+        read("define_type first = First num;;").commands  # The library is read once.
+        for text, seconds in (("exp = Numb num | Plus exp exp | Sum (exp list)", 0.1), ("many = " + _many(20), 0.5)):
+            with self.subTest(text[:20]):
+                begun, had = time.process_time(), program.processor_seconds()
+                program.copy([one.text for one in read("define_type %s;;" % text).commands])
+                spent = time.process_time() - begun + program.processor_seconds() - had
+                self.assertIn("%s_CASES" % text.split()[0], program.theorems())
+                program.forget()
+                self.assertLess(spent, 2 * seconds)
+
+    def test_many_constructors_are_accepted(self):
+        rich = ("R%d", "R%d num", "R%d rich bool", "R%d A (rich list) num", "R%d (rich list) A rich (rich list)")
+        text = "define_type rich = %s;;\n" % " | ".join(rich[number % 5] % number for number in range(32))
+        text += "define_type plain = %s;;\n" % " | ".join("P%d" % number for number in range(64))
+        text += "g MANY `!x y. ~((R1 x:A rich) = R31 y) /\\ ~(P63 = P0)`;;\ne REWRITE_TAC [distinctness \"rich\"; distinctness \"plain\"; FORALL_SIMP];;\nqed;;\n"
+        status, said = checked(text, "--alone", "--no-axioms")
+        self.assertEqual(status, 0, said)
+        self.assertIn("at most 64 constructors", told("define_type q = %s;;" % " | ".join("Q%d" % number for number in range(65)))[0][1])
+
     def test_many_constructors_with_arguments_are_accepted(self):
-        kinds = ("K%d num", "K%d num many", "K%d many many", "K%d A (many list)", "K%d")
-        text = "define_type many = %s;;\n" % " | ".join(kinds[number % 5] % number for number in range(20))
+        text = "define_type many = %s;;\n" % _many(20)
         text += "g APART `!x (y:A many). ~(K3 x [] = K18 x [y]) /\\ ~((K19:A many) = K4)`;;\n" \
                 "e REWRITE_TAC [distinctness \"many\"; injectivity \"many\"; FORALL_SIMP];;\nqed;;\n"
-        self.assertLess(len(read(text).commands), 100)
+        self.assertLess(len(read(text).commands), 70)
         status, said = checked(text, "--alone", "--no-axioms")
         self.assertEqual(status, 0, said)
 

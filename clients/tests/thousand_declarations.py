@@ -65,6 +65,9 @@ def run(job):
 
 def main():
     """Writes what is refused, and how many were made in which time."""
+    if not BUILT.is_file():  # A pool whose processes end at once begins others for ever.
+        print("declarations: there is no program %s" % BUILT)
+        return 1
     number, seed = (int(word) for word in (sys.argv[1:] + ["1000", "1"][len(sys.argv) - 1:])[:2])
     begun, made, wrong, refused = time.monotonic(), dict.fromkeys(PACKAGES, 0), [], []
     jobs = [(package, seed * 1_000_000 + at, min(TOGETHER, number - at)) for at in range(0, number, TOGETHER) for package in PACKAGES]

@@ -21,7 +21,7 @@ from holls.surface.tokens import END, NUMBER, WORD
 from holls.surface.tree import Type as WrittenType
 
 RESERVED = frozenset((*TACTICALS, *FORWARD))
-MOST_CONSTRUCTORS = 100
+MOST_CONSTRUCTORS = 64
 _MUTUAL = ("types that are defined by one another aren't given: make one type of the constructors of all, with a relation (inductive) that says what is of which; "
            "or, where one is of lists of the other, write (t list) in its place")
 _USED = re.compile(r"(?:P|fn|h|f[0-9]+)\Z")

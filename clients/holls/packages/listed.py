@@ -6,6 +6,7 @@
 from __future__ import annotations
 
 import re
+from itertools import chain, count, takewhile
 from typing import List, Tuple
 
 from holls.packages.parsing import NAME, words
@@ -20,7 +21,6 @@ OF_TYPES = re.compile(r"(?<![A-Za-z0-9_'])(distinctness|injectivity)(?![A-Za-z0-
 _LIBRARY = {"num": {"distinctness": ("NOT_SUC",), "injectivity": ("SUC_INJ",)}, "list": {"distinctness": ("NOT_CONS_NIL",), "injectivity": ("CONS_11",)},
             "option": {"distinctness": ("option_DISTINCT",), "injectivity": ("option_INJ",)},
             "sum": {"distinctness": ("sum_DISTINCT",), "injectivity": ("sum_INJECTIVE",)}, "prod": {"injectivity": ("PAIR_EQ",)}}
-_MOST_PARTS = 20
 _LIST = re.compile(r"\s*theorems\s+[A-Za-z_][A-Za-z0-9_']*\s*=\s*\[(.*)\]\s*\Z", re.S)
 _WORD = re.compile(r"[A-Za-z_][A-Za-z0-9_']*")
 
@@ -79,7 +79,7 @@ def of_types(text: str, asking: Asking) -> List[Change]:
         known = _LIBRARY.get(name or "")
         of_library = [theorem for theorem in (known or {}).get(word, ()) if asking.is_theorem(theorem)]
         stem = "%s_%s" % (name, "DISTINCT" if word == "distinctness" else "INJECTIVE")
-        own = [theorem for theorem in (stem + (str(number) if number > 1 else "") for number in range(1, _MOST_PARTS)) if asking.is_theorem(theorem)]
+        own = list(takewhile(asking.is_theorem, chain([stem], (stem + str(number) for number in count(2)))))
         if name is None or not of_library and not own:
             why = "is written %s \"TYPE\"" % word if name is None else "isn't known of `%s`: its constructors have nothing to tell, or it isn't by define_type" % name
             raise Misread(one.start(), one.end(), "`%s` %s" % (word, why))

@@ -4,7 +4,7 @@ from __future__ import annotations
 
 from typing import Dict, List, Optional, Tuple
 
-from holls.packages.layout import Layout, added, cases
+from holls.packages.layout import Layout, added, cases, half_of
 from holls.packages.output import HIDDEN, PUBLIC, Output, Span, Steps, chunks, conjuncts, goals
 from holls.packages.scope import Data
 from holls.packages.terms import fresh, fun, tyshow
@@ -88,12 +88,8 @@ class TypeCommands:
     def _induction(self) -> None:
         layout, name = self.layout, self.name
         hypotheses = layout.every(self._inductive)
-        opened = "REPEAT (GEN_TAC ORELSE DISCH_THEN SUBST1_TAC)" if layout.has_lists else "REPEAT GEN_TAC"
-        symmetric = "; ".join(self._symmetric(at) for at in range(layout.count))
-        self.out.prove(self.data.induct, "!P. %s ==> (!) P" % hypotheses, " THEN ".join((
-            self._with("pk_MADE_INDUCT") + " THEN DISCH_TAC THEN GEN_TAC THEN STRIP_TAC THEN FIRST_ASSUM MATCH_MP_TAC", self._unfolded(), "REPEAT CONJ_TAC", opened,
-            "REWRITE_TAC [ALL_APPEND; ALL; %s]" % symmetric,
-            "REPEAT DISCH_TAC THEN ASM_REWRITE_TAC [] THEN FIRST_ASSUM MATCH_MP_TAC THEN ASM_REWRITE_TAC []")), PUBLIC)
+        steps: Steps = ["GEN_TAC", self._with("pk_MADE_INDUCT"), "DISCH_THEN MATCH_MP_TAC", *([] if self.is_plain else ["PURE_REWRITE_TAC [pk_%s_AR_DEF]" % name])]
+        self.out.prove(self.data.induct, "!P. %s ==> (!) P" % hypotheses, steps + self._parted(0, layout.count), PUBLIC)
         self.out.prove(name + "_INDUCTION", "!P. %s ==> !x. P x" % hypotheses, "MP_TAC %s THEN REWRITE_TAC [ETA_AX]" % self.data.induct, PUBLIC)
 
     def _inductive(self, at: int) -> str:
@@ -102,22 +98,32 @@ class TypeCommands:
         concluded = "P %s" % self.layout.term(at)
         return "%s ==> %s" % (" /\\ ".join(hypotheses), concluded) if hypotheses else concluded
 
+    def _parted(self, first: int, number: int) -> Steps:
+        """The steps by which what is asked of so many constructors gives what is asked of their labels. No goal has the cases of all: the types of
+        labels are as large as all constructors together."""
+        if number == 1:
+            return [self._inducted(first)]
+        half = half_of(number)
+        halves = "MATCH_MP_TAC pk_HALVES THEN BETA_TAC THEN PURE_REWRITE_TAC [sum_CASE] THEN CONJ_TAC"
+        parted: Steps = ["MATCH_MP_TAC pk_CUT%d" % half] if half > 1 else []
+        return parted + [(halves, [self._parted(first, half), self._parted(first + half, number - half)])]
+
+    def _inducted(self, at: int) -> str:
+        """The same of one constructor."""
+        steps = ["DISCH_TAC THEN BETA_TAC THEN REWRITE_TAC [FORALL_PAIR; FORALL_ONE; K_THM; pk_ALLK] THEN BETA_TAC",
+                 "REWRITE_TAC [FORALL_PAIR; FORALL_ONE; pk_ALLK; FST; SND] THEN BETA_TAC"]
+        if "l" in self.data.constructors[at].kinds:
+            steps.append("REWRITE_TAC [FST; SND] THEN REWRITE_TAC [pk_ALLK; pk_ALLK_ADD; pk_ALLK_LEN] THEN BETA_TAC "
+                         "THEN REWRITE_TAC [pk_ALLK; pk_ALLK_LEN] THEN BETA_TAC THEN REPEAT (GEN_TAC ORELSE DISCH_THEN SUBST1_TAC)")
+        steps.append("REPEAT GEN_TAC THEN REWRITE_TAC [ALL_APPEND; ALL; %s]" % self._symmetric(at))
+        return " THEN ".join(steps + ["REPEAT DISCH_TAC THEN ASM_REWRITE_TAC [] THEN FIRST_ASSUM MATCH_MP_TAC THEN ASM_REWRITE_TAC []"])
+
     def _symmetric(self, at: int) -> str:
         """A constructor's definition from right to left."""
         theorem = "pk_%s_DEF" % self.data.constructors[at].name
         for one in self.layout.arguments[at]:
             theorem = "(SPEC `%s:%s` %s)" % (one.name, tyshow(one.type), theorem)
         return "SYM %s" % theorem
-
-    def _unfolded(self) -> str:
-        """The steps from all labels and children to each constructor."""
-        unfolded = "" if self.is_plain else "pk_%s_AR_DEF; " % self.name
-        found = "REWRITE_TAC [FORALL_SUM] THEN BETA_TAC THEN REWRITE_TAC [FORALL_PAIR; FORALL_ONE; %ssum_CASE; K_THM; pk_ALLK] " \
-                "THEN BETA_TAC THEN REWRITE_TAC [FORALL_PAIR; FORALL_ONE; sum_CASE; K_THM; pk_ALLK; FST; SND] THEN BETA_TAC" % unfolded
-        if self.layout.has_lists:
-            found += " THEN REWRITE_TAC [FST; SND] THEN REWRITE_TAC [pk_ALLK; pk_ALLK_ADD; pk_ALLK_LEN] THEN BETA_TAC " \
-                     "THEN REWRITE_TAC [pk_ALLK; pk_ALLK_LEN] THEN BETA_TAC"
-        return found
 
     # ---- Recursion
 
@@ -176,7 +182,7 @@ class TypeCommands:
         self.out.made(constant + "_DEF", None)
         recursion = "(INST_TYPE [`:%s`,`:%s`] %s)" % (bits, self.result, self.data.recursion)
         for at in range(layout.count):
-            recursion = "(SPEC `%s` %s)" % (_constant_function(layout, at, bits, tags[at]), recursion)
+            recursion = "(SPEC `%s` %s)" % (_constant_function(layout, at, bits, "(%s:%s)" % (tags[at], bits)), recursion)
         self.out.prove(constant, layout.every(lambda at: "%s %s = %s" % (constant, layout.term(at), tags[at])), _chosen(recursion, constant + "_DEF"))
         different = "SPEC `%s:%s->%s` (INST_TYPE [`:%s`,`:A`] pk_DIFFERENT)" % (constant, layout.tight, bits, layout.type)
         return "REPEAT CONJ_TAC THEN REPEAT GEN_TAC THEN MATCH_MP_TAC (%s) THEN REWRITE_TAC [%s; pk_TAGS]" % (different, constant)
@@ -301,7 +307,7 @@ def _constant_function(layout: Layout, at: int, result: str, body: str) -> str:
 
 def _tag(at: int, of: int) -> str:
     """The number of a constructor, of so many, as a list of bits, the least one first."""
-    found = "(NIL:bool list)"
+    found = "NIL"
     for bit in reversed(range((of - 1).bit_length())):
         found = "(CONS %s %s)" % ("T" if at >> bit & 1 else "F", found)
     return found
