@@ -166,7 +166,7 @@ class Page:
         pathlib.Path(file).write_bytes(base64.b64decode(self.call("Page.captureScreenshot", format="png")["data"]))
 
 
-KEYS = {"Enter": 13, "Escape": 27, "Tab": 9, "ArrowUp": 38, "ArrowDown": 40, "ArrowLeft": 37, "ArrowRight": 39, "F4": 115, "F8": 119, " ": 32}
+KEYS = {"Backspace": 8, "Enter": 13, "Escape": 27, "Tab": 9, "ArrowUp": 38, "ArrowDown": 40, "ArrowLeft": 37, "ArrowRight": 39, "F4": 115, "F8": 119, " ": 32}
 
 
 def serve(program, *words):

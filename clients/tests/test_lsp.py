@@ -162,6 +162,20 @@ class Bridging(unittest.TestCase):
         self.assertIn("no proof was found", editor.ask("codeAction/resolve", found[3][0])["message"])
         self.assertEqual(editor.end(), 0)
 
+    def test_what_can_be_done_is_told_right_behind_an_edit_and_soon_where_a_command_runs_on(self):
+        editor = self.editor()
+        editor.open(self.uri, "g A `loop = loop`;;\n")
+        self.assertIn("Find a proof", self.actions(editor, 0))
+        editor.change(self.uri, 2, "e HANG_TAC;;\n", ((1, 0), (1, 0)))
+        self.assertEqual(self.actions(editor, 1), [])
+        editor.kill()
+
+    def actions(self, editor, line):
+        """The titles of what could be done at a line."""
+        span = {side: {"line": line, "character": 3} for side in ("start", "end")}
+        found = editor.ask("textDocument/codeAction", {"textDocument": {"uri": self.uri}, "range": span, "context": {"diagnostics": []}})
+        return [one["title"] for one in found]
+
     def test_what_a_search_tries_is_shown_and_it_can_be_cancelled(self):
         editor = self.editor(capabilities={"window": {"workDoneProgress": True}})
         editor.open(self.uri, "g A `x = x`;;\n\ng B `(!x:A. ?y. R x y) ==> (?y. !x. R x y)`;;\n")

@@ -25,6 +25,9 @@ INTERNAL, FAILED = -32603, -32803
 BASIS_SECONDS = 5.0
 """So long a hover waits for what a theorem rests on, or for a type; then it shows the rest."""
 
+ACTION_SECONDS = 2.0
+"""So long what could be done waits for what a command came to."""
+
 Params = Dict[str, Any]
 
 
@@ -258,14 +261,25 @@ class Answers:
         document = self.document(params)
         return Answered(self.navigation.links(document, self._files(document)))
 
-    def _actions(self, _: Any, params: Params) -> Answered:
+    def _actions(self, number: Any, params: Params) -> Optional[Answered]:
+        """What could be done, once it is known what the command came to; of one that runs long, what can be said before."""
         document = self.document(params)
-        start, end = (document.place(params["range"][side]) for side in ("start", "end"))
-        files = self._files(document)
-        every = self.bridge.workspace.every_file(document.project, files)
-        found = helping.actions(document.file, document.uri, files, every, start, end)
-        found += numerals.offers(document.file, files, document.uri, start)
-        return Answered(found + proving.instead(self.bridge, document, start) + proving.offers(self.bridge, document, files, start))
+        until = time.monotonic() + ACTION_SECONDS
+
+        def attempt() -> Optional[Answered]:
+            if self.bridge.workspace.documents.get(document.uri) is not document:
+                return Answered([])
+            start, end = (document.place(params["range"][side]) for side in ("start", "end"))
+            at = document.file.number_at(start)
+            if at is not None and self._state(document, at) is None and time.monotonic() < until:
+                return None
+            files = self._files(document)
+            every = self.bridge.workspace.every_file(document.project, files)
+            found = helping.actions(document.file, document.uri, files, every, start, end)
+            found += proving.instead(self.bridge, document, start) + proving.offers(self.bridge, document, files, start)
+            return Answered(found + numerals.offers(document.file, files, document.uri, start))
+
+        return self._wait(number, attempt, until)
 
     def _resolve_action(self, number: Any, params: Params) -> Optional[Answered]:
         """What the action 'find a proof' does, once a search in a thread has ended."""
