@@ -15,6 +15,7 @@ reply that isn't of the expected kind, or another number of commands run, ends t
   parameters   a `new_definition` of 100 parameters
   chain        64 theories, each of which imports the one before and adds a definition, an axiom and a proof; and the same without the imports
   imports      ten theories of 1,000 constants, and one that imports all ten
+  growing      16 theories of 249 definitions with a lemma each, where each definition uses the one before, also across theories
   large        64 theories of 1,000 commands, each of which imports the one before: 63,937 entries stand in the last one
 
 Needs Python 3.8 and Linux, and nothing else.
@@ -30,6 +31,7 @@ EXAMPLES = ("connectives", "maps", "pair_type", "group_axioms")
 THEORIES = 64
 CONSTANTS = 1000
 IMPORTED = 10
+GROWING, LEMMAS = 16, 249
 
 
 def documents(theories):
@@ -83,6 +85,15 @@ def chain(imports):
     return [("T%d" % number, link(number, imports)) for number in range(THEORIES)]
 
 
+def growing(number):
+    """A theory of definitions, each of which uses the one before, with a lemma each; it imports the theory before it."""
+    texts = ["import G%d" % (number - 1)] if number else []
+    for k in range(number * LEMMAS, (number + 1) * LEMMAS):
+        texts += ["new_definition D%d `d%d p = d%d (~p)`" % (k, k, k - 1) if k else "new_definition D0 `d0 p = ~p`"]
+        texts += ["g N%d `!p. d%d p <=> d%d (~p)`" % (k, k, k - 1) if k else "g N0 `!p. d0 p <=> ~p`", "e ACCEPT_TAC D%d" % k, "qed"]
+    return "G%d" % number, texts
+
+
 def full(number):
     """A theory of as many commands as one may have, which imports the one before."""
     return ("F%d" % number, [*(["import F%d" % (number - 1)] if number else []), *constants("f%d" % number)][:CONSTANTS])
@@ -117,6 +128,7 @@ def jobs():
         job("64 theories that import one another", chain(True)),
         job("the same without the imports", chain(False)),
         job("imports of 10,000 constants", [*(("L%d" % k, constants("l%d" % k)) for k in range(IMPORTED)), ("Z", ["import L%d" % k for k in range(IMPORTED)])]),
+        job("16 theories of definitions with lemmas", [growing(k) for k in range(GROWING)]),
         job("64 theories of 1,000 commands", [full(k) for k in range(THEORIES)]),
     ]
 

@@ -3,7 +3,7 @@ use Rattle.std.specs.Prelude.{◌≡◌, ℕ, true, false, List, [], ◌∷◌, 
 use Rattle.std.proofs.Common.{ap, sym, ◌∙◌, inl, inr}
 use Rattle.std.specs.declared.cmp.Ordering.{Ordering}
 use Rattle.std.specs.declared.cmp.Ordering.TheVariants.{Less, Equal, Greater}
-use Rattle.std.specs.Ordering.{ordering_then, match_ordering}
+use Rattle.std.specs.Ordering.{ordering_then, match_ordering, ordering_reverse, is_gt, is_lt}
 use Rattle.std.specs.Cmp.{IsTotalOrder, tied_itself}
 use Rattle.std.specs.FinSet as set
 use Rattle.std.specs.Set.{sorted_merge}
@@ -73,6 +73,29 @@ name_order_is x y same = by (name_order x y) refl ∙ sym (item_rows x y)
     by Less e = e ∙ sym (ap (λ r. ordering_then r (rows_cmp (rest_of x) (rest_of y))) e)
     by Equal e = e ∙ sym (tie (same e)) ∙ item_rows x y
     by Greater e = e ∙ sym (ap (λ r. ordering_then r (rows_cmp (rest_of x) (rest_of y))) e)
+
+-- ---- items in order, by kind and name
+
+no_later : (r s : Ordering) → ordering_then r s ≡ Less → is_gt r ≡ false
+no_later Less s e = refl
+no_later Equal s e = refl
+no_later Greater s e = absurd (cc)
+
+no_earlier : (r s : Ordering) → ordering_then r s ≡ Greater → is_lt r ≡ false
+no_earlier Less s e = absurd (cc)
+no_earlier Equal s e = refl
+no_earlier Greater s e = refl
+
+-- an item doesn't come after a later one
+pub rises : (x y : Item) → item_cmp x y ≡ Less → is_gt (name_order x y) ≡ false
+rises x y e = no_later (name_order x y) (rows_cmp (rest_of x) (rest_of y)) (sym (item_rows x y) ∙ e)
+
+-- an item doesn't come before an earlier one
+pub falls : (x y : Item) → item_cmp x y ≡ Less → is_lt (name_order y x) ≡ false
+falls x y e = no_earlier (name_order y x) (rows_cmp (rest_of y) (rest_of x)) (sym (item_rows y x) ∙ total.antisymm y x ∙ ap ordering_reverse e)
+
+pub own_place : (x : Item) → name_order x x ≡ Equal
+own_place x = name_order_is x x (λ _. refl) ∙ tied_itself total x
 
 -- ---- a name of two items
 

@@ -11,6 +11,8 @@ pub mod ItemOrder
 pub mod Weaken
 pub mod Unions
 pub mod Clashes
+pub mod Places
+pub mod Finding
 pub use Rattle.hol_subst.proofs.Merging
 pub mod Declared
 pub use Rattle.hol_subst.proofs.HypothesisLists

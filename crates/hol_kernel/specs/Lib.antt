@@ -12,6 +12,7 @@ pub mod Theorem
 pub mod Rules
 pub mod Extends
 pub mod Clashing
+pub mod Places
 pub mod Gives
 pub mod Defining
 pub mod Given

@@ -1,18 +1,22 @@
 //! Bases: legal sets of items.
-ghost use Rattle.std.specs.Prelude.{◌≡◌, ◌||◌, IfOk, IfSome, Some, []};
-ghost use Rattle.std.specs.List.{list_any};
+ghost use Rattle.std.specs.Prelude.{◌≡◌, ◌||◌, IfOk, IfSome, IsTrue, Some, [], option_copied};
+ghost use Rattle.std.specs.List.{find, list_any};
 ghost use Rattle.std.specs.List.Sorted.{IsStrictlySortedBy};
 ghost use Rattle.hol_terms.specs.Named.{named_type};
 ghost use Rattle.hol_terms.specs.Nameless.{nameless};
 ghost use Rattle.hol_formulas.specs.Equation.{bool_type, mk_eq};
 ghost use Rattle.hol_kernel.specs.Items.{item_cmp, item_set, no_items, in_order};
-ghost use Rattle.hol_kernel.specs.Signature.{has_arity, has_constant, makes_type, makes_constant};
+ghost use Rattle.hol_kernel.specs.Signature.{has_arity, has_constant, has_key, makes_type, makes_constant};
+ghost use Rattle.hol_kernel.specs.Clashing.{key_at};
 ghost use Rattle.hol_kernel.specs.Typing.{has_type, is_type, is_typed};
 ghost use Rattle.hol_kernel.specs.NamedTyping.{is_known_named};
 ghost use Rattle.hol_kernel.specs.Legal.{IsLegalSet, IsStorable};
 
+use crate::find::find_named;
 use crate::item::Item;
+use crate::item_kind::ItemKind;
 use hol_formulas::{Connectives, Equality};
+use hol_mark::Mark;
 use hol_terms::{Term, TermNode};
 use hol_types::{Name, Ty, TyNode};
 use std::alloc::{AllocError, Global};
@@ -26,18 +30,20 @@ pub struct Basis {
     shared: Rc<BasisShared>,
 }
 
-// What the copies of a basis share: its items, and the `=` between truth values and between terms of other types that rules last asked
+// What the copies of a basis share: its items, the mark by which two copies are known to be of one basis, and the `=` between truth values and between terms of other types that rules last asked
 // for, so that equations of one type share it. Types of other sizes have other places, so that the equations of a function, of its
 // argument and of what it makes of it, which rules take in turn, don't put out one another's. And the connectives' constants, once a rule asked for them.
 #[derive(Drop)]
 struct BasisShared {
     items: Vec<Item>,
+    mark: Mark,
     equivalence: RefCell<Option<Equality>>,
     equalities: [RefCell<Option<Equality>>; 4],
     connectives: RefCell<Option<Rc<Connectives>>>,
 }
 
 impl Model for Basis {
+    ghost use Rattle.std.specs.Prelude.{◌≡◌};
     ghost use Rattle.hol_kernel.specs.Items.{Items, items_code, item_set};
 
     ghost Value = { Items };
@@ -48,7 +54,7 @@ impl Model for Basis {
 
     ghost view = { λ b. item_set b.shared.value.items.items };
 
-    ghost invariant = { λ b. IsStorable b.shared.value.items.items };
+    ghost invariant = { λ b. (b.shared.value.mark ≡ items_code.code (item_set b.shared.value.items.items)) × IsStorable b.shared.value.items.items };
 }
 
 impl Basis {
@@ -57,8 +63,10 @@ impl Basis {
         requires { IsStorable items.items }
         ensures { IfOk result (λ basis. basis ≡ item_set items.items) }
     {
+        let mark = Mark::about(&items);
         let shared = BasisShared {
             items,
+            mark,
             equivalence: RefCell::new(None),
             equalities: [
                 RefCell::new(None),
@@ -90,6 +98,13 @@ impl Basis {
         })
     }
 
+    /// Whether the two are copies of one basis. Where they aren't, they may still be equal.
+    pub fn same_node(&self, other: &Basis) -> bool
+        ensures { IsTrue result → self.now ≡ other.now }
+    {
+        self.shared.mark.same(&other.shared.mark)
+    }
+
     /// The items, each once: axioms, declared constants, defined constants, declared types, defined types; each kind by the bytes
     /// of its names.
     pub fn items(&self) -> &[Item]
@@ -99,6 +114,13 @@ impl Basis {
         ensures legal { IsLegalSet self.now }
     {
         &self.shared.items
+    }
+
+    /// The item that has the name, as one of this kind.
+    pub fn item_named(&self, kind: ItemKind, name: &Name) -> Option<&Item>
+        ensures { option_copied result ≡ find (λ x. has_key x (key_at kind name.now)) (in_order self.now) }
+    {
+        find_named(self.items(), kind, name)
     }
 
     /// `left = right`, for two terms of the type. It has the `=` of the last equation whose type has its place, where that is of
@@ -300,14 +322,13 @@ impl Basis {
 
 // Whether an item of the list makes the type constructor at this arity.
 fn makes_type(items: &[Item], constructor: &Name, arity: usize) -> bool
+    requires { IsStorable items.now }
     ensures { result ≡ list_any (makes_type constructor.now arity) items.now }
 {
-    for item in items {
-        if item.makes_type(constructor, arity) {
-            return true;
-        }
+    match find_named(items, ItemKind::Type, constructor) {
+        Some(item) => item.makes_type(constructor, arity),
+        None => false,
     }
-    false
 }
 
 // Whether an item of the list makes the constant, and the type is an instance of its generic type.
@@ -317,12 +338,11 @@ fn makes_constant(
     constant: &Name,
     ty: &Ty,
 ) -> Result<bool, AllocError>
+    requires { IsStorable items.now }
     ensures { IfOk result (λ makes. makes ≡ list_any (makes_constant constant.now ty.now) items.now) }
 {
-    for item in items {
-        if item.makes_constant(alloc, constant, ty)? {
-            return Ok(true);
-        }
+    match find_named(items, ItemKind::Constant, constant) {
+        Some(item) => item.makes_constant(alloc, constant, ty),
+        None => Ok(false),
     }
-    Ok(false)
 }

@@ -1,11 +1,12 @@
 //! Declarations: types, constants and axioms that a larger basis has.
 ghost use Rattle.std.specs.Prelude.{◌≡◌, ◌&&◌, not, [], IfOk, Ok, Err};
 ghost use Rattle.std.specs.List.{list_any};
+ghost use Rattle.std.specs.List.Sorted.{IsStrictlySortedBy};
 ghost use Rattle.hol_terms.specs.Nameless.{nameless};
 ghost use Rattle.hol_kernel.specs.Signature.{has_key};
 ghost use Rattle.hol_formulas.specs.Equation.{bool_type};
 ghost use Rattle.hol_kernel.specs.Typing.{has_type};
-ghost use Rattle.hol_kernel.specs.Items.{IsSubset};
+ghost use Rattle.hol_kernel.specs.Items.{IsSubset, item_cmp};
 ghost use Rattle.hol_kernel.specs.Extends.{IsDeclareType, IsDeclareConst, IsDeclareAxiom};
 ghost use Rattle.hol_kernel.specs.Gives.{GivesSome, in_kernel};
 ghost use Rattle.hol_kernel.specs.Clashing.{key_at, is_new};
@@ -13,6 +14,7 @@ ghost use Rattle.hol_kernel.specs.declared.error.Rule.TheVariants as rule;
 
 use crate::basis::Basis;
 use crate::error::{KernelError, Rule};
+use crate::find::find_named;
 use crate::item::{Item, ItemNode};
 use crate::item_kind::ItemKind;
 use crate::prelude;
@@ -91,12 +93,11 @@ impl Basis {
 
 // Whether an item of the list has the name, as one of this kind.
 fn is_name_of(items: &[Item], kind: ItemKind, name: &Name) -> bool
+    requires { IsStrictlySortedBy item_cmp items.now }
     ensures { result ≡ list_any (λ x. has_key x (key_at kind name.now)) items.now }
 {
-    for item in items {
-        if item.has_name(kind, name) {
-            return true;
-        }
+    match find_named(items, kind, name) {
+        Some(_item) => true,
+        None => false,
     }
-    false
 }

@@ -2,6 +2,7 @@
 ghost use Rattle.std.specs.Prelude.{◌≡◌, ◌↔◌, true, false, IsTrue, MatchOption, Some, None};
 ghost use Rattle.hol_kernel.specs.Signature.{has_key, item_keys};
 ghost use Rattle.hol_kernel.specs.Clashing.{key_at, rank_of, name_of, name_order, shared_in};
+ghost use Rattle.hol_kernel.specs.Places.{is_type_definition, place_order};
 
 use crate::item::{Item, ItemNode};
 use crate::item_kind::ItemKind;
@@ -126,6 +127,29 @@ impl Item {
         match self.rank().cmp(&other.rank()) {
             Ordering::Equal => self.name().order(other.name()),
             unequal => unequal,
+        }
+    }
+
+    /// Where the item stands beside one of this rank and name.
+    pub(crate) fn place_order(&self, rank: u8, name: &Name) -> Ordering
+        ensures { result ≡ place_order rank name.now self.now }
+    {
+        match self.rank().cmp(&rank) {
+            Ordering::Equal => self.name().order(name),
+            unequal => unequal,
+        }
+    }
+
+    /// Whether the item is a type definition.
+    pub(crate) fn is_type_definition(&self) -> bool
+        ensures { result ≡ is_type_definition self.now }
+    {
+        match self.node() {
+            ItemNode::DefinedType { .. } => true,
+            ItemNode::DeclaredType(..) => false,
+            ItemNode::DeclaredConstant(..) => false,
+            ItemNode::DefinedConstant(..) => false,
+            ItemNode::Axiom(..) => false,
         }
     }
 

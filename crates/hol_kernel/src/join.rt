@@ -93,7 +93,7 @@ fn clash_between<'a>(items: &'a [Item], others: &[Item]) -> Option<&'a Name>
 fn merged(alloc: Global, first: &[Item], second: &[Item]) -> Result<Vec<Item>, AllocError>
     ensures { IfOk result (λ all. all.items ≡ sorted_merge name_order true first.now second.now) }
 {
-    let mut all = Vec::new(alloc);
+    let mut all = Vec::with_capacity(alloc, first.len().saturating_add(second.len()))?;
     let mut i = 0;
     let mut j = 0;
     while i < first.len() && j < second.len() {

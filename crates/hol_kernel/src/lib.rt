@@ -9,6 +9,7 @@ mod declare;
 mod define;
 mod derived;
 mod error;
+mod find;
 mod given;
 mod instances;
 mod item;

@@ -46,7 +46,10 @@ REFL one abs abs \x:bool. x is Refused(TypeDefine)
 REFL one abs rep x:bool is Refused(TypeDefine)
 ASSUME one abs rep (\x:bool. x) p is Refused(TypeDefine)
 axiom A (\x:bool. x) p | AXIOM one abs rep T is taken
-axiom A p:bool | AXIOM one abs rep T is Refused(TypeDefine)";
+axiom A p:bool | AXIOM one abs rep T is Refused(TypeDefine)
+constant k x:bool | constant b x:bool | constant c x:bool | constant d x:bool | define e \x:A. x | define f \x:A. x | type g 0 | type h 0 | REFL one abs rep \x:bool. x | constant rep x:bool is Refused(DeclareConst)
+constant k x:bool | constant b x:bool | constant c x:bool | constant d x:bool | define e \x:A. x | define f \x:A. x | type g 0 | type h 0 | REFL one abs rep \x:bool. x | define b \x:A. x is Refused(Define)
+constant k x:bool | constant b x:bool | constant c x:bool | constant d x:bool | define e \x:A. x | define f \x:A. x | type g 0 | type h 0 | REFL one abs rep \x:bool. x | define a \x:one. (x:one) is taken";
 
 type Made = Result<Basis, KernelError>;
 

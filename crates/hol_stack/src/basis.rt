@@ -23,9 +23,19 @@ pub fn joined(alloc: Global, left: &Basis, right: &Basis) -> Result<Basis, Alloc
     Basis::union(alloc, left, right)
 }
 
-// Whether the second basis has all items of the first, with which it agrees: one walk over both, which are in one order, by names. Most bases that a command
-// joins lie within one another.
+// Whether the second basis has all items of the first, with which it agrees. Copies of one basis and a longer list aren't walked.
 fn is_within(part: &Basis, whole: &Basis) -> bool
+    requires { Agree whole.now part.now }
+    ensures { result ≡ true → IsSubset part.now whole.now }
+{
+    if part.same_node(whole) {
+        return true;
+    }
+    part.items().len() <= whole.items().len() && is_found_in(part, whole)
+}
+
+// The same by one walk over both, which are in one order, by names. Most bases that a command joins lie within one another.
+fn is_found_in(part: &Basis, whole: &Basis) -> bool
     requires { Agree whole.now part.now }
     ensures { result ≡ true → IsSubset part.now whole.now }
 {

@@ -27,12 +27,7 @@ use std::alloc::{AllocError, Global};
 pub fn item_at<'a>(basis: &'a Basis, kind: ItemKind, name: &Name) -> Option<&'a Item>
     ensures { option_copied result ≡ item_at (key_at kind name.now) basis.now }
 {
-    for item in basis.items() {
-        if item.has_name(kind, name) {
-            return Some(item);
-        }
-    }
-    None
+    basis.item_named(kind, name)
 }
 
 /// Entries with their keys.
