@@ -83,7 +83,34 @@ pub(crate) fn front(
         → AreSlots setup before start (take at theory.now.slots) growing.state × AreSlots setup before growing.state (drop at theory.now.slots) last) }
     ensures drift { IfOk result (λ growing. growing.drift ≡ no_drift) }
 {
-    resumed(alloc, earlier, &theory.slots()[..at])
+    if at == theory.slots().len() {
+        at_end(alloc, theory)
+    } else {
+        resumed(alloc, earlier, &theory.slots()[..at])
+    }
+}
+
+// All slots of a theory, as they stand: nothing is run through, since its last state is kept.
+fn at_end(alloc: Global, theory: &Theory) -> Result<Growing, AllocError>
+    ensures slots { IfOk result (λ growing. map (λ x. x.value) growing.slots.items ≡ theory.now.slots) }
+    ensures state { IfOk result (λ growing. growing.state ≡ theory.now.last) }
+    ensures drift { IfOk result (λ growing. growing.drift ≡ no_drift) }
+{
+    let slots = theory.slots();
+    Ok(Growing {
+        slots: copies(alloc, slots)?,
+        state: theory.last().checkpoint(alloc)?,
+        drift: Drift::none(alloc),
+        since: since_kept(slots),
+    })
+}
+
+// How many slots were passed over since the last one that keeps its state, with that one.
+fn since_kept(slots: &[Rc<Slot>]) -> usize {
+    match last_kept(slots) {
+        Some((at, _state)) => slots.len().saturating_sub(at),
+        None => slots.len(),
+    }
 }
 
 // The slots that a theory begins with, as they stand: the state is run through from the last one that is kept.
