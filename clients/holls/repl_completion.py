@@ -8,7 +8,7 @@ from typing import Callable, List, Optional, Tuple
 from holls import graph
 from holls.files import File
 from holls.lsp import completion
-from holls.projects import SUFFIX
+from holls.projects import SUFFIX, names_of_library
 from holls.repl_session import Session
 
 Buffer = Callable[[], Tuple[str, int]]
@@ -40,7 +40,8 @@ class Completer:
         if before[0] in ("save", "save!"):
             return sorted(glob.glob(glob.escape(word) + "*" + SUFFIX) + glob.glob(glob.escape(word) + "*/"))
         if before[0] == "import":
-            return sorted({name for project in self._session.projects for name in project.names if name.startswith(word)})
+            own = (name for project in self._session.projects for name in project.names)
+            return sorted({name for name in (*own, *names_of_library()) if name.startswith(word)})
         return list(dict.fromkeys(one for one in self._at(line, begin, word) if one.startswith(word)))
 
     def _at(self, line: str, begin: int, word: str) -> List[str]:

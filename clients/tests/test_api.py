@@ -20,6 +20,9 @@ PATIENT = 120.0
 """Seconds for a step that is to end by itself, on any machine."""
 SOON = 3.0
 """Seconds for one that never ends."""
+STEPS = ("GEN_TAC", "CONJ_TAC", "EQ_TAC", "DISCH_TAC", "STRIP_TAC", "REPEAT STRIP_TAC", "REPEAT GEN_TAC THEN EQ_TAC", "REWRITE_TAC []",
+         "REPEAT STRIP_TAC THEN ASM_REWRITE_TAC []", "REWRITE_TAC [LENGTH; APPEND]", "REPEAT GEN_TAC THEN REWRITE_TAC [FORALL_SIMP]", "BETA_TAC")
+"""What is tried of each goal."""
 
 
 def open_files():
@@ -181,7 +184,7 @@ class OverTheFakeServer(unittest.TestCase):
     def test_a_pool_goes_on_where_one_of_its_programs_dies(self):
         prover = self.prover(processes=2)
         state = Project(prover).text("").prove("GOAL", "big /\\ b = b").state
-        died = []
+        died, files = [], open_files()
 
         def work():
             for _ in range(5):
@@ -197,6 +200,8 @@ class OverTheFakeServer(unittest.TestCase):
             thread.join()
         self.assertEqual(len(died), 10)
         self.assertEqual(len(state.apply("CONJ_TAC").goals), 2)
+        self.assertEqual(len(prover.pids), 1)
+        self.assertLessEqual(open_files(), files)
 
     def test_asyncio_runs_as_many_at_once_as_there_are_programs(self):
         meeting = self.folder / "meeting"
@@ -451,6 +456,26 @@ class OverTheProgram(unittest.TestCase):
         self.assertEqual(len(states), 1000)
         self.assertLess(self._kilobytes() - before, 100_000)
         self.assertEqual((open_files(), self.prover.pids), (files, pids))
+
+    def test_five_thousand_steps_a_second_of_which_python_takes_half_at_most(self):
+        """In processor time of Python and the program together, the best of three; each step has another text, so that none is found and not run."""
+        statements = list(self.lists.statements.values())
+        states = [self.lists.prove("GOAL", statements[at * len(statements) // 12]).state for at in range(12)]
+        rates, shares = [], []
+        for spaces in range(3):
+            steps = [step + " " * (spaces * 8 + more) for more in range(8) for step in STEPS]
+            own, its = time.process_time(), self._seconds()
+            count = sum(len(state.apply_all(steps)) for state in states)
+            own, its = time.process_time() - own, self._seconds() - its
+            rates.append(count / (own + its))
+            shares.append(own / (own + its))
+        self.assertGreaterEqual(max(rates), 5000, (rates, shares))
+        self.assertLessEqual(min(shares), 0.5, (rates, shares))
+
+    def _seconds(self):
+        """The processor time of the program."""
+        with open("/proc/%d/schedstat" % self.prover.pids[0]) as stream:
+            return int(stream.read().split()[0]) / 1e9
 
     def _kilobytes(self):
         """The memory of this process and of its program."""

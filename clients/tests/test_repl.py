@@ -5,6 +5,8 @@ import pathlib
 import pty
 import re
 import select
+import shlex
+import shutil
 import signal
 import subprocess
 import tempfile
@@ -168,6 +170,7 @@ class OverTheFakeServer(unittest.TestCase):
 
         self.assertIn("qed ", offered("q"))
         self.assertEqual(offered("import B"), ["Base"])
+        self.assertEqual(offered("import numer"), ["numerals"])
         self.assertEqual(offered("e REWRITE_TAC [LONG"), ["LONG_NAME"])
         self.assertIn("CONJ_TAC", offered("e CONJ"))
         self.assertIn("CONJ_TAC", offered("e ALL_TAC THEN (CONJ"))
@@ -261,6 +264,51 @@ class AsAProgram(unittest.TestCase):
         self.shown = shown[shown.index(text) + len(text):]
 
 
+TYPED = (
+    ("import arithm\t\n", "names are taken from arithmetic"),
+    ("g `!m n p. m + (n + p) = n + (m + p)`;;\n", "`!m n p. m + n + p = n + m + p`"),
+    ("e (REPEAT GEN_TAC);;\n", "\n`m + n + p = n + m + p`"),
+    ("e (REWRITE_TAC [ADD_ASOC]);;\n", "did you mean ADD_ASSOC?"),
+    ("e (MESON_TAC [ADD_ASSOC; ADD_SYM]);;\n", "HOL Light's MESON_TAC isn't here"),
+    ("e (REWRITE_TAC [ADD_ASS\t]);;\n", "`(m + n) + p = (n + m) + p`"),
+    ("e (SUBST1_TAC (SPECL [`n:num`; `m:num`] ADD_SYM));;\n", "`(m + n) + p = (m + n) + p`"),
+    ("b ();;\nb ();;\nb ();;\nprove\n", "no goal is open: qed makes the theorem GOAL"),
+    ("let SWAP = top_thm ();;\n", "SWAP |- !m n p. m + n + p = n + m + p\n"),
+    ("search [`_ + (_ + _) = _`];;\n", "ADD_ASSOC |- !m n p."),
+    ("save mine.hol\n", "mine.hol has "),
+    ("#quit;;\n", "it has ended"))
+"""What a new user types, and what the screen has to show then."""
+
+
+class Tmux:
+    """A terminal in which a command runs; it says when that has ended."""
+
+    def __init__(self, folder, words):
+        self._folder, self._environment = folder, dict(os.environ, HOME=folder, XDG_STATE_HOME=folder, TMUX_TMPDIR=folder)
+        self._environment.pop("TMUX", None)
+        self.run("new-session", "-d", "-x", "120", "-y", "100", " ".join(map(shlex.quote, words)) + "; echo it has ended; sleep 600")
+
+    def run(self, *words):
+        """What tmux answers to a command."""
+        words = ["tmux", "-f", os.devnull, *words]
+        return subprocess.run(words, env=self._environment, cwd=self._folder, capture_output=True, timeout=SECONDS).stdout.decode()
+
+    def type(self, text):
+        """Presses keys, Tab and Enter among them."""
+        for part in re.findall(r"[^\t\n]+|[\t\n]", text):
+            key = {"\t": ["Tab"], "\n": ["Enter"]}.get(part)
+            # (a semicolon at the end of a word would end tmux's own command)
+            self.run("send-keys", *(key or ["-l", "--", part[:-1] + "\\;" if part.endswith(";") else part]))
+
+    def until(self, shown):
+        """Waits until the screen shows a text."""
+        begun = time.monotonic()
+        while shown not in self.run("capture-pane", "-p", "-J"):
+            if time.monotonic() - begun > PATIENT:
+                raise AssertionError("%r isn't shown: %s" % (shown, self.run("capture-pane", "-p", "-J")))
+            time.sleep(0.05)
+
+
 @unittest.skipUnless(BUILT.exists(), "hol_serve isn't built")
 class OverTheProgram(unittest.TestCase):
     def test_a_new_users_first_minutes(self):
@@ -284,6 +332,21 @@ class OverTheProgram(unittest.TestCase):
             session.run("e CONJ_TAC")
             session.run("r 1")
             self.assertEqual(session.state.goal.conclusion, "Q")
+
+    @unittest.skipUnless(shutil.which("tmux"), "tmux isn't installed")
+    def test_a_new_user_in_a_terminal_of_tmux(self):
+        """What a person types who knows HOL Light, slips, Tab and steps back among it, and what then stands on the screen."""
+        folder = tempfile.TemporaryDirectory()
+        self.addCleanup(folder.cleanup)
+        tmux = Tmux(folder.name, [*PYTHON, str(HOLLS), "repl", "--server", str(BUILT)])
+        self.addCleanup(tmux.run, "kill-server")
+        tmux.until("Ctrl-D ends.")
+        for typed, shown in TYPED:
+            tmux.type(typed)
+            tmux.until(shown)
+        done = subprocess.run([*PYTHON, str(HOLLS), "check", "--server", str(BUILT), folder.name + "/mine.hol"], capture_output=True, timeout=SECONDS)
+        self.assertEqual(done.returncode, 0, done.stdout)
+        self.assertIn(b"1 theorem, all accepted", done.stdout)
 
     def test_packages_stand_at_the_prompt_too(self):
         with Prover(str(BUILT), seconds=PATIENT) as prover, tempfile.TemporaryDirectory() as folder:
