@@ -31,7 +31,8 @@ class Declarations:
         pick, name = self.random, self.name("ty")
         parameters = pick.choice(([], [], ["A"], ["A", "B"]))
         made = []
-        for at in range(pick.choice([number for number in (1, 2, 2, 3, 3, 4, 5, 6, 9, 24) if number <= most])):
+        number = pick.choice([number for number in (1, 2, 2, 3, 3, 4, 5, 6, 9) if number <= most])
+        for at in range(most if most > 9 and pick.random() < 0.03 else number):
             made.append((self.name("C"), [self.argument(at, parameters) for _ in range(pick.choice((0, 0, 1, 1, 2, 2, 3, 4)))]))
         used = [one for one in parameters if any(text == one for _, arguments in made for _, text in arguments)]
         own = " ".join(filter(None, ["(%s)" % ",".join(used) if len(used) > 1 else "".join(used), name]))

@@ -11,6 +11,7 @@ from holls.files import File
 from holls.lsp import completion, features, goals, helping, hovering, lookup, numerals, proving
 from holls.lsp.inside import Inside
 from holls.lsp.navigation import Navigation
+from holls.lsp.renaming import CannotRename, Renaming
 from holls.lsp.workspace import Document
 from holls.manual import COMMANDS
 from holls.names import THEOREM
@@ -65,6 +66,8 @@ class Answers:
             "proof/goals": self._goals,
             "textDocument/definition": self._definition,
             "textDocument/references": self._references,
+            "textDocument/prepareRename": self._may_rename,
+            "textDocument/rename": self._rename,
             "textDocument/documentLink": self._links,
             "workspace/symbol": self._all_symbols,
             "hol/search": self._search,
@@ -256,6 +259,22 @@ class Answers:
         with_definition = bool((params.get("context") or {}).get("includeDeclaration", True))
         place = document.place(params["position"])
         return Answered(self.navigation.references(document, self._files(document), place, with_definition))
+
+    def _may_rename(self, _: Any, params: Params) -> Answered:
+        document = self.document(params)
+        try:
+            start, end = Renaming(self.navigation, document, self._files(document)).range(document.place(params["position"]))
+        except CannotRename as error:
+            raise BadParams(str(error)) from None
+        return Answered(features.span(document.file, start, end))
+
+    def _rename(self, _: Any, params: Params) -> Answered:
+        document, new = self.document(params), params["newName"]
+        try:
+            edits = Renaming(self.navigation, document, self._files(document)).edits(document.place(params["position"]), str(new))
+        except CannotRename as error:
+            raise BadParams(str(error)) from None
+        return Answered({"changes": edits})
 
     def _links(self, _: Any, params: Params) -> Answered:
         document = self.document(params)

@@ -44,6 +44,7 @@ CAPABILITIES = {
     "definitionProvider": True,
     "completionProvider": {"triggerCharacters": ["\\"]},
     "referencesProvider": True,
+    "renameProvider": {"prepareProvider": True},
     "codeActionProvider": {"codeActionKinds": ["quickfix"], "resolveProvider": True},
     "signatureHelpProvider": {"triggerCharacters": [" ", "(", "[", "`"]},
     "workspaceSymbolProvider": True,

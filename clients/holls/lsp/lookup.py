@@ -12,6 +12,10 @@ from holls.text import Command
 from holls.view import PLAIN, View
 
 
+_OF_TERMS = ("RULE_INDUCT ", 'distinctness "', 'injectivity "')
+"""Behind these words of steps stands a relation, or a type."""
+
+
 @dataclass(frozen=True)
 class Word:
     """A name at a place: its range in the file, the command that it stands in, and whether in a quotation.
@@ -65,7 +69,8 @@ def word(files: Sequence[File], file: File, place: int) -> Optional[Word]:
         return Word(name, start, end, command, False, _with_statement(entry, file, command, start, view), view=view)
     if entry and (not is_first or start == command.start or name in manual.DECLARATIONS and file.is_declaration(number)):
         return Word(name, start, end, command, False, entry, view=view)
-    kinds = IN_TERMS if file.is_declaration(number) else (names.kind_outside(written, written.offset(start)),)
+    is_term = file.is_declaration(number) or written.text[:written.offset(start)].endswith(_OF_TERMS)
+    kinds = IN_TERMS if is_term else (names.kind_outside(written, written.offset(start)),)
     known = _made(file, command, start, name) or names.find(files, file, place, name, kinds)
     return Word(name, start, end, command, False, known=known, view=view)
 
