@@ -2,8 +2,7 @@
 
 `rt ci` leaves these tests as a program that lists them, or runs one by its name. For each k the k-th growth of a test is refused alone, and then all
 from the k-th on. The test has to end with want of memory as its own answer, which is the error that the call gives, or to pass: never with another error,
-a wrong value, a signal or not at all. A test passes where what was refused isn't needed, and where it makes the call again, after it has seen that the
-refused one changed nothing. By default some k of each test are tried, the first ones, the last ones and some between; with `--all` each k."""
+a wrong value, a signal or not at all. A test passes where what was refused isn't needed. By default some k of each test are tried, the first ones, the last ones and some between; with `--all` each k."""
 
 import argparse
 import pathlib
@@ -21,8 +20,10 @@ SAID = "\nthe test failed: its result gives status 1\n"
 ENDS = {(0, "\ntest result: ok\n", ""): PASSED, (101, "", "error: AllocError" + SAID): MEMORY, (101, "", "error: Memory" + SAID): MEMORY}
 # The functions of tests in which growths of these calls are refused: they have to be there, and to tell want of memory.
 CALLS = {
-    "refused_commands_change_nothing": "hol_combine::run, justify, Stack::apply, State::checkpoint",
-    "theories_have_names": "Env::import, Env::checkpoint",
+    "other_entries_under_a_key_are_refused": "new_constant, new_type, Env::add, Env::import",
+    "texts_are_answered": "answer_all",
+    "values_are_copied": "Expr::copy, Instance::copy, TacArgs::copy, TypePair::copy",
+    "what_is_written_is_copied": "Definition::copy, TacExpr::copy, TypeDefinition::copy",
 }
 
 

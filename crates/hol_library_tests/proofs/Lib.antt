@@ -1,4 +1,3 @@
-pub mod Applied
 pub mod Reduced
 pub mod Patterns
 pub mod Declared

@@ -1,10 +1,11 @@
 //! A text of requests that is answered at once: up to the line that closes the session.
-use crate::steps_tests::setup;
 use hol_document::Docs;
 use hol_exec::Setup;
+use hol_prelude::Prelude;
 use hol_registry::{Registry, RegistryError};
 use hol_session::answer_all;
 use std::alloc::{AllocError, Global};
+use std::rc::Rc;
 use std::test::Fail;
 
 const REQUESTS: &str = r#"{"op":"new_theory","name":"A","at":0}
@@ -40,6 +41,12 @@ fn is_answered(alloc: Global, setup: Setup) -> Result<bool, AllocError> {
         Ok(replies) => are_replies(&replies),
         Err(_fault) => Err(AllocError),
     }
+}
+
+// The set-up of these functions, for commands of ten turns.
+fn setup(alloc: Global, registry: Registry) -> Result<Setup, AllocError> {
+    let prelude = Rc::new(alloc, Prelude::new(alloc)?)?;
+    Setup::new(alloc, registry, prelude, 10)
 }
 
 fn is_answered_without_functions(alloc: Global) -> Result<bool, AllocError> {

@@ -98,7 +98,8 @@ fn of_theorem(alloc: Global, basis: &Basis, names: &Names, th: &Thm) -> Made
     requires { th.now.basis ≡ basis.now }
 {
     let made = basis.type_define(alloc, &names.ty, &names.abs, &names.rep, th)?;
-    Ok(made.basis)
+    let copy = made.copy()?;
+    Ok(copy.basis)
 }
 
 fn of_reflexivity(alloc: Global, basis: &Basis, names: &Names, t: &Term) -> Made {

@@ -232,11 +232,17 @@ impl Row<'_> {
         }
     }
 
+    fn of_two(&self, terms: &[Term], a: &Thm, b: &Thm, third: &str) -> Result<bool, Fail>
+        requires { a.now.basis ≡ b.now.basis }
+    {
+        let c = self.premise(a.basis(), third)?;
+        self.with_terms(terms, a, b, &c)
+    }
+
     fn of_premise(&self, terms: &[Term], a: &Thm, others: &str) -> Result<bool, Fail> {
         let (second, third) = others.split_once(" | ").unwrap_or((others, "T"));
         let b = self.premise(a.basis(), second)?;
-        let c = self.premise(a.basis(), third)?;
-        self.with_terms(terms, a, &b, &c)
+        self.of_two(terms, a, &b, third)
     }
 
     fn of_premises(&self, terms: &[Term], premises: &str) -> Result<bool, Fail> {

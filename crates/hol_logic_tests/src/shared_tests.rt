@@ -17,12 +17,17 @@ fn doubled_type(alloc: Global, leaf: &Ty) -> Result<Ty, AllocError> {
     Ok(ty)
 }
 
-// Whether two functions on the type and to it are the same, and come after it.
+// Whether the second and the third are the same, and come after the first.
+fn are_ordered(ty: &Ty, one: &Ty, other: &Ty) -> bool {
+    let is_before = ty.order(one) == Ordering::Less;
+    is_before && one.same(other) && one.order(other) == Ordering::Equal
+}
+
+// Whether two functions on the type and to it are so.
 fn is_compared(alloc: Global, ty: &Ty) -> Result<bool, AllocError> {
     let one = Ty::fun(alloc, ty, ty)?;
     let other = Ty::fun(alloc, ty, ty)?;
-    let is_before = ty.order(&one) == Ordering::Less;
-    Ok(is_before && one.same(&other) && one.order(&other) == Ordering::Equal)
+    Ok(are_ordered(ty, &one, &other))
 }
 
 // Whether the type is seen to be large, and without type variables.
@@ -30,9 +35,13 @@ fn is_sized(alloc: Global, ty: &Ty) -> Result<bool, AllocError> {
     Ok(ty.tyvars(alloc)?.is_empty() && ty.size() == 20_001)
 }
 
+fn is_large_type(alloc: Global, ty: &Ty) -> Result<bool, AllocError> {
+    Ok(is_compared(alloc, ty)? && is_sized(alloc, ty)?)
+}
+
 fn is_type_large(alloc: Global, leaf: &Ty) -> Result<bool, AllocError> {
     let ty = doubled_type(alloc, leaf)?;
-    Ok(is_compared(alloc, &ty)? && is_sized(alloc, &ty)?)
+    is_large_type(alloc, &ty)
 }
 
 // The term as both arguments of an application.
@@ -50,6 +59,12 @@ fn doubled(alloc: Global, f: &Term, leaf: &Term) -> Result<Term, TermError> {
     Ok(t)
 }
 
+// Whether the two differ in names of binders alone.
+fn are_equivalent(first: &Term, second: &Term) -> bool {
+    let is_neither = alpha_order(first, second) == Ordering::Equal;
+    is_neither && first.alpha_equivalent(second) && !first.same(second)
+}
+
 // Whether the two are the same, and under binders of two names differ in these alone.
 fn are_alike(
     alloc: Global,
@@ -60,8 +75,7 @@ fn are_alike(
 ) -> Result<bool, TermError> {
     let first = Term::abs(alloc, x, one)?;
     let second = Term::abs(alloc, y, other)?;
-    let is_neither = alpha_order(&first, &second) == Ordering::Equal;
-    Ok(is_neither && one.same(other) && first.alpha_equivalent(&second) && !first.same(&second))
+    Ok(one.same(other) && are_equivalent(&first, &second))
 }
 
 // Whether two pairs of the term are so.

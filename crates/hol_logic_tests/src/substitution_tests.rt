@@ -87,30 +87,35 @@ fn substitution_renames_what_would_capture(rt: HostRuntime) -> Result<(), Fail> 
     Ok(())
 }
 
-// Whether the abstraction of the first variable in the second, `\x:A. x:B`, with the type for each of two type variables is `\x'. x`.
-fn is_instance(
-    alloc: Global,
-    x: &Term,
-    other: &Term,
-    ty: &Ty,
-    names: &[Name; 2],
-    wanted: &Term,
-) -> Result<bool, TermError> {
-    let t = Term::abs(alloc, x, other)?;
-    let pairs = [
-        (ty.copy()?, names[0].copy()?),
-        (ty.copy()?, names[1].copy()?),
-    ];
-    let made = inst(alloc, &pairs, &t)?;
-    Ok(is_identical(alloc, &made, wanted)?)
+// The type, for the type variable of this name.
+fn type_for(alloc: Global, ty: &Ty, name: &str) -> Result<(Ty, Name), AllocError> {
+    let own = ty.copy()?;
+    Ok((own, Name::new(alloc, name)?))
 }
 
+fn is_instance(
+    alloc: Global,
+    pairs: &[(Ty, Name)],
+    t: &Term,
+    wanted: &Term,
+) -> Result<bool, AllocError> {
+    let made = inst(alloc, pairs, t)?;
+    is_identical(alloc, &made, wanted)
+}
+
+// Whether the term with the type for each of two type variables is the other.
+fn is_instance_at(alloc: Global, t: &Term, ty: &Ty, wanted: &Term) -> Result<bool, AllocError> {
+    let pairs = [type_for(alloc, ty, "A")?, type_for(alloc, ty, "B")?];
+    is_instance(alloc, &pairs, t, wanted)
+}
+
+// Whether the abstraction of the first variable in the second, `\x:A. x:B`, at that type is `\x'. x`.
 fn is_renamed(alloc: Global, terms: &[Term]) -> Result<bool, TermError> {
-    let names = [Name::new(alloc, "A")?, Name::new(alloc, "B")?];
-    match terms {
-        [x, other, p, wanted] => is_instance(alloc, x, other, p.type_of(), &names, wanted),
-        _ => Ok(false),
-    }
+    let [x, other, p, wanted] = terms else {
+        return Ok(false);
+    };
+    let t = Term::abs(alloc, x, other)?;
+    Ok(is_instance_at(alloc, &t, p.type_of(), wanted)?)
 }
 
 #[test]
