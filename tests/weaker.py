@@ -320,9 +320,8 @@ class Trial:
             self.say(False, f"{edit.label}: BAD EDIT: {why}")
             return None
 
-    def try_edits(self, crate, edits):
-        """Tries edits of one crate's laws in one check."""
-        self.crates.uses[CRATE] = [crate, *self.crates.uses[crate]]
+    def try_edits(self, edits):
+        """Tries edits in one check."""
         missing = self.crates.missing(CRATE)
         copies = [] if missing else [it for it in (self.usable(edit, f"e{number}") for number, edit in enumerate(edits)) if it]
         for edit in edits if missing else []:
@@ -367,14 +366,9 @@ class Trial:
 
 
 def groups_of(edits, size):
-    """The edits of each crate's laws, by at most so many; those of one law together, since they share the most."""
-    found = {}
-    for edit in sorted(edits, key=lambda it: (it.crate, it.law, it.label)):
-        rows = found.setdefault(edit.crate, [[]])
-        if len(rows[-1]) == size:
-            rows.append([])
-        rows[-1].append(edit)
-    return [(crate, row) for crate, rows in found.items() for row in rows]
+    """The edits by at most so many; those of one law together, since they share the most."""
+    rows = sorted(edits, key=lambda it: (it.crate, it.law, it.label))
+    return [rows[at : at + size] for at in range(0, len(rows), size)]
 
 
 def main():
@@ -382,18 +376,21 @@ def main():
     words.add_argument("--edit", action="append", metavar="WORD", help="only the edits whose file's name has this word (repeatable)")
     words.add_argument("--over", type=pathlib.Path, default=ROOT, metavar="TREE", help="the tree in which `rt ci` has left the libraries; else this one")
     words.add_argument("--jobs", type=int, default=min(os.cpu_count() or 1, 4), metavar="N", help="how many checks go on side by side")
-    words.add_argument("--together", type=int, default=32, metavar="N", help="how many edits are tried in one check")
+    words.add_argument("--together", type=int, default=41, metavar="N", help="how many edits are tried in one check")
     words.add_argument("--unedited", action="store_true", help="take the same files into the copies as they stand: each law must be proved")
     words.add_argument("--verbose", action="store_true", help="print what each check says")
     words = words.parse_args()
     edits = [edit_of(it) for it in sorted(EDITS.glob("*.edit")) if any(word in it.name for word in words.edit or [""])]
     try:
-        trial = Trial(wrong_bodies.Crates(words.over.resolve()), words.unedited, words.verbose)
+        crates = wrong_bodies.Crates(words.over.resolve())
+        laws = dict.fromkeys(it.crate for it in edits if it.crate in crates.uses)
+        crates.uses[CRATE] = [*laws, *(use for law in laws for use in crates.uses[law] if use not in laws)]
+        trial = Trial(crates, words.unedited, words.verbose)
     except wrong_bodies.Unusable as why:
         print(f"weaker: {why}\nweaker: 0 passed, 1 failed")
         return 1
     with concurrent.futures.ThreadPoolExecutor(words.jobs) as pool:
-        for it in [pool.submit(trial.try_edits, crate, row) for crate, row in groups_of(edits, max(words.together, 1))]:
+        for it in [pool.submit(trial.try_edits, row) for row in groups_of(edits, max(words.together, 1))]:
             it.result()
     used = resource.getrusage(resource.RUSAGE_CHILDREN)
     print(f"{(used.ru_utime + used.ru_stime) / 60:.1f} processor minutes")
