@@ -239,6 +239,14 @@ class Watch:
             waiting += [int(one) for task in listed("/proc/%d/task" % process) for one in told("/proc/%d/task/%s/children" % (process, task)).split()]
         return found
 
+    def seconds(self):
+        """The processor time that the threads of the processes have had, and what these have started and that has ended."""
+        total = 0.0
+        for process in self.tree():
+            total += sum(int((told("/proc/%d/task/%s/schedstat" % (process, task)) or "0").split()[0]) for task in listed("/proc/%d/task" % process)) / 1e9
+            total += sum(map(int, told("/proc/%d/stat" % process).rpartition(")")[2].split()[13:15])) / os.sysconf("SC_CLK_TCK")
+        return total
+
     def now(self):
         """How many processes there are, how many files the server has open, and the megabytes of all and of the server alone."""
         tree = self.tree()

@@ -36,6 +36,9 @@ HOLLS = ROOT / "clients" / "bin" / "holls"
 KEYS_SECONDS, PROXY_SECONDS, DOZE = 60, 40, 10
 HOSTILE, PROXIED, LOST = 3, 40, 10
 MEGABYTES = 8 * 1024
+PAGE_TIME, KEY_TIME = 40, 10
+"""What a page that begins and a key may take of the processors, in milliseconds: by the latter 200 pages that type a key every two seconds keep one processor
+busy. Other work on the machine changes these little."""
 SECONDS = 60
 FRONT = """
 defaults
@@ -117,7 +120,8 @@ def failed(measured):
 def typing(pages, hostile):
     """Pages that type: rows of what was measured, its figure and the most that is wanted."""
     with Server("--sessions", str(2 * pages + 20), "--each", str(2 * pages + 20)) as server:
-        measured = load.Class(given_words(server.address, "--sessions", pages, "--seconds", KEYS_SECONDS, "--hostile", hostile))
+        watch = load.Watch(server.process.pid)
+        measured = Timed(given_words(server.address, "--sessions", pages, "--seconds", KEYS_SECONDS, "--hostile", hostile), watch)
         measured.run()
     yield failed(measured)
     if hostile:
@@ -126,6 +130,8 @@ def typing(pages, hostile):
     yield "a page begins, median ms", middle(measured.begun), load.BEGINS
     yield "a key to its goals, median ms", middle(measured.keys), load.MEDIAN
     yield "a key to its goals, 99 % ms", at(measured.keys, 0.99), load.LATEST
+    yield "processor ms of a page that begins", measured.a_page(), PAGE_TIME
+    yield "processor ms of a key", measured.a_key(), KEY_TIME
     yield "keys a page and minute", -len(measured.keys) * 60 / KEYS_SECONDS / pages, -25
 
 
@@ -164,6 +170,30 @@ def given_back(watch, before):
     yield "processes more than before", after[0] - before[0], 0
     yield "files more than before", after[1] - before[1], 2
     yield "MB of the server more than before", after[3] - before[3], 30
+
+
+class Timed(load.Class):
+    """Pages whose beginnings and keys are set beside the processor time that the server, its bridges and its programs have for them."""
+
+    def __init__(self, given, watch):
+        super().__init__(given)
+        self.watch, self.seconds = watch, [watch.seconds()]
+        self.ready = threading.Barrier(given.sessions, self.note, timeout=600)
+
+    def note(self):
+        """Once all pages have begun, and shortly before the end."""
+        self.seconds.append(self.watch.seconds())
+        if not self.keys:
+            threading.Timer(self.given.seconds - 1, self.note).start()
+        self.typed = len(self.keys)
+
+    def a_page(self):
+        """Milliseconds of the processor that a page has until its goals are there."""
+        return 1000 * (self.seconds[1] - self.seconds[0]) / self.given.sessions
+
+    def a_key(self):
+        """Those of a key."""
+        return 1000 * (self.seconds[2] - self.seconds[1]) / max(1, self.typed)
 
 
 class Returning(load.Class):

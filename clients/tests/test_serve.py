@@ -70,8 +70,10 @@ class Parts(unittest.TestCase):
         self.assertTrue(rates.takes("a"))
 
     def test_addresses_under_which_it_is_known(self):
-        self.assertEqual([command._origin(one) for one in ("https://hol.example.edu/", "http://a:80", "hol.example.edu", "https://a/b", "ftp://a", "https://u@a", "http://[")],
-                         ["https://hol.example.edu", "http://a:80", None, None, None, None, None])
+        for given, name in (("https://hol.example.edu/", "https://hol.example.edu"), ("http://A:80", "http://a"), ("https://a:443", "https://a"),
+                            ("http://a:443", "http://a:443"), ("hol.example.edu", None), ("https://a/b", None), ("ftp://a", None), ("https://u@a", None),
+                            ("http://[", None)):
+            self.assertEqual(command._origin(given), name)
 
     def test_the_page_of_a_course_has_links_that_hold_the_exercises_and_no_markup_of_a_text(self):
         course = layout.read(str(COURSE))
@@ -165,8 +167,9 @@ class Served(unittest.TestCase):
         self.room = pathlib.Path(room.name)
         self.log = self.room / "log"
 
-    def serve(self, *words, program=None):
-        command = [python(), str(HOLLS), "serve", str(COURSE), "--port", "0", "--server", program or fake(self.room, "--log", self.log), *words]
+    def serve(self, *words, program=None, begun=(str(HOLLS),)):
+        """Begins the server; `begun` are the words of Python that begin `holls`, where it isn't begun as by its users."""
+        command = [python(), *begun, "serve", str(COURSE), "--port", "0", "--server", program or fake(self.room, "--log", self.log), *words]
         with open(self.room / "said", "ab") as said:
             self.process = subprocess.Popen(command, stdout=subprocess.PIPE, stderr=said)
         self.addCleanup(self.process.communicate)
@@ -406,6 +409,25 @@ class Serve(Served):
         self.until(lambda: not self.programs())
         self.assertIsInstance(Editor(self.socket()).ask("hol/manual"), dict)
 
+    @unittest.skipUnless(os.path.isdir("/proc/self"), "what processes use isn't told here")
+    def test_memory_idle_time_and_long_messages_end_their_session_alone_and_are_told(self):
+        """The time in which nothing is done is three seconds here, in place of a minute at least."""
+        code = ("import sys; sys.path.insert(0, %r); from dataclasses import replace; from holls.serving import service; made = service.Settings; "
+                "service.Settings = lambda *given: replace(made(*given), idle_seconds=3.0); from holls.__main__ import run; sys.exit(run())" % str(ROOT / "clients"))
+        self.serve("--memory", "60", "--ahead", "0", begun=("-c", code))
+        self.assertIn("nothing was done here for long: the next key begins anew", self.closed(self.socket()))
+        large = self.socket()
+        large.send(b"[" * (5 << 20))
+        self.assertIn("a message has more than 4 MB", self.closed(large))
+        much = Editor(self.socket())
+        try:
+            for number in range(8):
+                much.open("B%d" % number, "g N `x = x`;; (* %s *)\n" % ("x" * 3_900_000))
+        except OSError:
+            pass  # It was ended before all was sent.
+        self.assertIn("this page has used the 60 MB of memory that it may have", self.closed(much.socket))
+        self.assertIsInstance(Editor(self.socket()).ask("hol/manual"), dict)
+
     @unittest.skipUnless(shutil.which("pgrep"), "pgrep isn't installed")
     def test_nothing_is_left_behind(self):
         """A program that hangs ends with its page; and all end where the server is ended, or killed."""
@@ -545,8 +567,10 @@ class Proxies(Served):
         used = [json.load(self.health(host))["sessions"] for host in hosts]
         self.assertEqual(sorted(used), [0, 1])
         processes[used.index(1)].terminate()
-        self.until(lambda: (self.through() or None) is not None)
-        self.proves(self.through())
+        processes[used.index(1)].wait(SECONDS)  # Else it may still serve, or be named by the proxy, when another page is opened.
+        editors = []
+        self.until(lambda: editors.append(self.through()) or editors[-1] is not None)
+        self.proves(editors[-1])
 
     def health(self, host):
         connection = http.client.HTTPConnection(host, timeout=SECONDS)

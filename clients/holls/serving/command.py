@@ -41,6 +41,8 @@ LINK_BYTES = 400_000
 LESSON = "g N `!x:num. x = x /\\ T`;;\ne GEN_TAC;;\ne REWRITE_TAC [];;\nqed;;\n"
 """A text as pages have them, for a rehearsal."""
 
+_PORTS = {"http": ":80", "https": ":443"}
+"""What no browser writes behind a host's name."""
 _NUMBERS = ("sessions", "each", "seconds", "memory", "processor", "idle", "rate", "doze", "files", "share")
 
 
@@ -167,8 +169,9 @@ def _origin(address: str) -> Optional[str]:
         parts = urlsplit(address.strip().rstrip("/"))
     except ValueError:
         return None
-    is_one = parts.scheme in ("http", "https") and parts.netloc and "@" not in parts.netloc and not (parts.path or parts.query or parts.fragment)
-    return "%s://%s" % (parts.scheme, parts.netloc) if is_one else None
+    is_one = parts.scheme in _PORTS and parts.netloc and "@" not in parts.netloc and not (parts.path or parts.query or parts.fragment)
+    host = parts.netloc[:-len(_PORTS[parts.scheme])] if is_one and parts.netloc.endswith(_PORTS[parts.scheme]) else parts.netloc
+    return "%s://%s" % (parts.scheme, host.lower()) if is_one else None
 
 
 def _bear(probed: bridge.Probed, seconds: int, limits: bridge.Limits, names: Exercises, imports: List[str], tells_texts: bool, pair: socket.socket,

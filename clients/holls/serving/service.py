@@ -30,12 +30,15 @@ from holls.serving.watching import COOKIE, KEY_COOKIE, Class, from_cookie, key_o
 
 MESSAGE_BYTES = 4 << 20
 """A longer message, either way, ends the session."""
+TOO_BIG = "a message has more than %d MB: a theory here can't be so long" % (MESSAGE_BYTES >> 20)
 BEAT_SECONDS, SEND_SECONDS, END_SECONDS, LOOK_SECONDS = 30, 60, 3, 2.0
 """So often a page is asked whether it is there; so long it may take to read a message, and a bridge to end; so often it is looked what sessions use."""
 SHARE_SECONDS = 80
 """What a session may have of the processor in so many seconds in the long run it may have at once; then it comes after the others."""
 MESSAGES, MOST_MESSAGES = 50, 500
 """So many messages a second a session may send in the long run, and so many at once. More of them wait."""
+ANSWERS = 4
+"""So many times as many messages a session may be sent: what is asked and what is told besides."""
 BYTES, MOST_BYTES = 1 << 20, 32 << 20
 """So many bytes a second a session may send, and be sent, in the long run, and so many at once. More of them wait."""
 FULL, IDLE, ENDED, SPENT = 4000, 4001, 4002, 4003
@@ -106,6 +109,16 @@ class Session:
     is_behind: bool = False
     begun: float = field(default_factory=time.monotonic)
     spent: "asyncio.Future[End]" = field(default_factory=lambda: asyncio.get_running_loop().create_future())
+
+
+class Socket(web.WebSocketResponse):
+    """A page's socket, which says why it is closed where aiohttp closes it by itself."""
+
+    async def close(self, *, code: int = WSCloseCode.OK, message: bytes = b"", **more: Any) -> bool:
+        """As aiohttp's."""
+        if code == WSCloseCode.MESSAGE_TOO_BIG and not message:
+            message = TOO_BIG.encode()
+        return await super().close(code=code, message=message, **more)
 
 
 class Service:
@@ -211,7 +224,7 @@ class Service:
         """A session, until one of its ends is gone."""
         if request.headers.get("Origin") not in self.settings.origins:
             raise web.HTTPForbidden(text="the page comes from elsewhere: --origin says from where it may come\n")
-        page = web.WebSocketResponse(heartbeat=BEAT_SECONDS, max_msg_size=MESSAGE_BYTES, timeout=END_SECONDS)
+        page = Socket(heartbeat=BEAT_SECONDS, max_msg_size=MESSAGE_BYTES, timeout=END_SECONDS)
         await page.prepare(request)
         self._number += 1
         cookies = request.cookies
@@ -406,7 +419,7 @@ async def _close(session: Session, end: End) -> None:
 
 async def _tell(reader: asyncio.StreamReader, page: "web.WebSocketResponse", take: Callable[[List[Dict[str, Any]]], None]) -> End:
     """Hands a bridge's messages to its page, but for those that tell how far it is. What the page doesn't read, the bridge can't write."""
-    bytes_ = Bucket(BYTES, MOST_BYTES)
+    messages, bytes_ = Bucket(ANSWERS * MESSAGES, ANSWERS * MOST_MESSAGES), Bucket(BYTES, MOST_BYTES)
     while True:
         body = await _body(reader)
         if body is None:
@@ -418,6 +431,7 @@ async def _tell(reader: asyncio.StreamReader, page: "web.WebSocketResponse", tak
             return ENDED, "an answer has more than %d MB: this page begins anew" % (MESSAGE_BYTES >> 20)
         if page.closed:
             continue  # The rest is read, so that the bridge comes to its end.
+        await messages.wait(1)
         await bytes_.wait(len(body))
         try:
             await asyncio.wait_for(page.send_str(body.decode("ascii")), SEND_SECONDS)
@@ -444,7 +458,7 @@ async def _hear(page: "web.WebSocketResponse", writer: asyncio.StreamWriter, idl
         except asyncio.TimeoutError:
             return IDLE, "nothing was done here for long: the next key begins anew"
         if message.type == WSMsgType.ERROR or message.type == WSMsgType.CLOSE and message.data == WSCloseCode.MESSAGE_TOO_BIG:
-            return WSCloseCode.MESSAGE_TOO_BIG, "a message has more than %d MB" % (MESSAGE_BYTES >> 20)
+            return WSCloseCode.MESSAGE_TOO_BIG, TOO_BIG
         if message.type != WSMsgType.TEXT:
             return WSCloseCode.OK, ""
         body = message.data.encode("utf-8", "replace")
