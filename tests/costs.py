@@ -117,6 +117,17 @@ def turns_deep_in_a_term(program: str, n: int) -> float:
     return took
 
 
+def rules_that_are_assumed(program: str, n: int) -> float:
+    """Forty times a turn that looks through n variables for n others, which are assumed."""
+    session = Session(program)
+    assumed = " ==> ".join(f"p{k}" for k in range(n))
+    session.put([f"g W `{assumed} ==> " + " /\\ ".join(f"q{k}" for k in range(n)) + "`", "e REPEAT DISCH_TAC"])
+    took = session.seconds(lambda: session.put(["e ASM_REWRITE_TAC []"] * 40))
+    session.stands(41, b"goals")
+    session.end()
+    return took
+
+
 # ---- cases that stay below a bound
 
 
@@ -154,6 +165,26 @@ def quoted_again(program: str) -> None:
     once, often = (min(citations(program, n) for _ in range(TRIES)) for n in (1, 500))
     if often > 150 * once + NOISE:
         raise Cost(f"a quotation takes {once:.3f} seconds where it stands once, {often:.3f} where it stands 500 times")
+
+
+def cited(program: str, n: int) -> float:
+    """The time of a turn by 120 rules of n theorems, of which no rule matches: each left side has one variable twice, and no part of the goal has."""
+    session = Session(program)
+    pairs = [(i, j) for j in range(16) for i in range(j)]
+    sides = [" ".join(f"y{i if k == j else k}" for k in range(16)) for i, j in pairs]
+    session.put(["new_constant P `:" + "bool->" * 16 + "bool`", "new_axiom R `!z. " + " /\\ ".join(f"(P {side} <=> z)" for side in sides) + "`"])
+    session.put(["g W `" + " /\\ ".join(["P " + " ".join(f"x{k}" for k in range(16))] * 100) + "`"])
+    took = session.seconds(lambda: session.put(["e PURE_REWRITE_TAC [" + "; ".join(["SPEC `T` R"] * n) + "]"]))
+    session.stands(3, b"goals")
+    session.end()
+    return took
+
+
+def rules_that_come_again(program: str) -> None:
+    """Rules of one left side are tried once, from however many theorems they come."""
+    once, often = (min(cited(program, n) for _ in range(TRIES)) for n in (1, 40))
+    if often > 10 * once + NOISE:
+        raise Cost(f"a turn by 120 rules takes {once:.3f} seconds, {often:.3f} where each comes 40 times")
 
 
 def long_replies(program: str) -> None:
@@ -213,8 +244,9 @@ GROWING: List[Tuple[Callable[[str, int], float], List[int]]] = [
     (goals_of_one_size, [8, 32, 128]),
     (reports_of_names, [2_000, 8_000, 32_000]),
     (turns_deep_in_a_term, [240, 960, 3_840]),
+    (rules_that_are_assumed, [60, 240, 960]),
 ]
-BOUNDED: List[Callable[[str], None]] = [built_from_its_end, quoted_again, long_replies, heavy_outcomes, little_space]
+BOUNDED: List[Callable[[str], None]] = [built_from_its_end, quoted_again, rules_that_come_again, long_replies, heavy_outcomes, little_space]
 
 
 @dataclasses.dataclass

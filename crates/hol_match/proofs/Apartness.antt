@@ -1,6 +1,6 @@
 -- Variables that are apart from the rules of a set, and abstractions over them.
-use Rattle.std.proofs.Common.{◌≡◌, ℕ, ◌+◌, ◌==◌, length, List, [], ◌∷◌, ◌++◌, map, refl, ap, sym, ◌∙◌, Bool, true, false, cond, ◌||◌, bytes_eq, arith}
-use Rattle.std.proofs.lemmas.Bool.{or_parts, or_left, or_right}
+use Rattle.std.proofs.Common.{◌≡◌, ℕ, ◌+◌, ◌==◌, length, List, [], ◌∷◌, ◌++◌, map, refl, ap, sym, ◌∙◌, Bool, true, false, cond, not, ◌&&◌, ◌||◌, bytes_eq, arith}
+use Rattle.std.proofs.lemmas.Bool.{and_parts, or_parts, or_left, or_right}
 use Rattle.std.proofs.lemmas.Bool.Decides.{nat_tests}
 use Rattle.std.proofs.lemmas.Slice.Eq.{bytes_eq-Decides}
 use Rattle.hol_types.specs.Tree.{TypeTree}
@@ -21,7 +21,7 @@ use Rattle.hol_match.specs.Rules.{RuleValue}
 use Rattle.hol_match.specs.RuleSets.{RuleEntry, entries}
 use Rattle.hol_match.specs.RuleView.{rule_value, rule_values}
 use Rattle.hol_match.specs.declared.rule.Rule.{Rule}
-use Rattle.hol_match.specs.Apart.{is_named, IsApart, AddsVariables, rule_variables, right_variables}
+use Rattle.hol_match.specs.Apart.{is_named, IsApart, are_apart, AddsVariables, rule_variables, right_variables}
 use Rattle.hol_match.proofs.Contracta.{named_append}
 use Rattle.hol_match.proofs.Keeping.{variables_stay}
 use Rattle.hol_match.proofs.Opened.{not_taken}
@@ -85,6 +85,22 @@ apart_of vs (e ∷ es) v h =
     let own = add_all [] (free_occurrences e.rule.right) in
     let p = all_unnamed more own v.0 (rules_unnamed (add_all more own) es v.0 h) in
     (unbound ws v (all_unnamed vs ws v.0 p.0).1, (all_unnamed [] (free_occurrences e.rule.right) v.0 p.1).1, apart_of (add_all more own) es v h)
+
+-- as a test
+pub tested_apart : (es : List RuleEntry) (v : List ℕ × TypeTree) → IsApart es v → are_apart es v ≡ true
+tested_apart [] v h = refl
+tested_apart (e ∷ es) v h = rw (h.0, h.1, tested_apart es v h.2) refl
+
+pub apart_rules : (es : List RuleEntry) (v : List ℕ × TypeTree) → are_apart es v ≡ true → IsApart es v
+apart_rules [] v h = tt
+apart_rules (e ∷ es) v h =
+    let p = and_parts (not (binds (map (λ (q : Nameless × Var). q.1) e.stays.terms) v)) (not (is_named (free_occurrences e.rule.right) v.0) && are_apart es v) h in
+    let q = and_parts (not (is_named (free_occurrences e.rule.right) v.0)) (are_apart es v) p.1 in
+    (turned (binds (map (λ (q : Nameless × Var). q.1) e.stays.terms) v) p.0, turned (is_named (free_occurrences e.rule.right) v.0) q.0, apart_rules es v q.1)
+  where
+    turned : (b : Bool) → not b ≡ true → b ≡ false
+    turned false k = refl
+    turned true k = absurd (cc)
 
 -- ---- the variables of the rules of one theorem
 

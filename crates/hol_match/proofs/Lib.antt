@@ -25,3 +25,4 @@ mod Ground
 pub mod Formulas
 pub mod Buckets
 pub mod HeadNames
+mod Spared

@@ -20,7 +20,7 @@ use Rattle.hol_terms.proofs.Same.{variable_eq_decides}
 use Rattle.hol_subst.specs.Substitution.{term_lookup}
 use Rattle.hol_subst.specs.Pairs.{nameless_pairs, HasBadPair}
 use Rattle.hol_subst.proofs.Closing.{eq_flip}
-use Rattle.hol_match.specs.Instance.{InstanceValue, instance_of, both}
+use Rattle.hol_match.specs.Instance.{InstanceValue, instance_of, both, staying}
 use Rattle.hol_match.specs.Fixed.{stays}
 use Rattle.hol_match.specs.declared.fixed.Fixed.{Fixed}
 use Rattle.hol_match.specs.Matching.{taken, with_type, variable_takes, variable_meets}
@@ -159,3 +159,9 @@ pub ruleset argument_steps = (match_ends_some, match_ends_none, match_more_none,
 pub ruleset lookups = (type_first, type_second, append_assoc)
 
 pub ruleset meeting = (meets_by, meets_none)
+
+pub same_stays : (names others : List (List ℕ)) (vs ws : List (List ℕ × TypeTree)) → names ≡ others → vs ≡ ws → staying names vs ≡ staying others ws
+same_stays names others vs ws e f = λ i. staying (e i) (f i)
+
+pub equal_variables : (v w : List ℕ × TypeTree) → variable_eq v w ≡ true → v ≡ w
+equal_variables v w h = (variable_eq_decides v w).0 h

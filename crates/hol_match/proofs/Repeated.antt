@@ -21,7 +21,7 @@ or_three None b c = refl
 or_three (Some e) b c = refl
 
 -- where there is none of the last without one of the first, the last counts for nothing
-or_spared : (a b : Option RuleEntry) → (a ≡ None → b ≡ None) → option_or a b ≡ a
+pub or_spared : (a b : Option RuleEntry) → (a ≡ None → b ≡ None) → option_or a b ≡ a
 or_spared None b h = h refl
 or_spared (Some e) b h = refl
 
@@ -44,7 +44,7 @@ module _ (env : List TypeTree) (t : Nameless) where
       by None n g = n g
       by (Some a) n g = absurd (cc)
 
-  joined : (xs ys : List RuleEntry) → first_entry (xs ++ ys) env t ≡ option_or (first_entry xs env t) (first_entry ys env t)
+  pub joined : (xs ys : List RuleEntry) → first_entry (xs ++ ys) env t ≡ option_or (first_entry xs env t) (first_entry ys env t)
   joined [] ys = refl
   joined (e ∷ xs) ys =
       let o = option_map (λ (a : InstanceValue). e) (fit_under env e t) in

@@ -1,6 +1,6 @@
 -- Variables that can be bound above a redex: none of them is what a rule brings along. Private clauses and those of opened abstractions
 -- speak of it.
-use Rattle.std.specs.Prelude.{◌≡◌, ℕ, List, [], ◌∷◌, map, Bool, false, ◌||◌, bytes_eq}
+use Rattle.std.specs.Prelude.{◌≡◌, ℕ, List, [], ◌∷◌, map, Bool, true, false, not, ◌&&◌, ◌||◌, bytes_eq}
 use Rattle.hol_types.specs.Tree.{TypeTree}
 use Rattle.hol_terms.specs.Nameless.{free_occurrences}
 use Rattle.hol_terms.specs.Scoped.{binds, add_all}
@@ -16,6 +16,11 @@ is_named (v ∷ vs) a = bytes_eq v.0 a || is_named vs a
 abbrev pub IsApart : List RuleEntry → List ℕ × TypeTree → Type 0
 IsApart [] v = Unit {0}
 IsApart (e ∷ es) v = (binds (map (λ p. p.1) e.stays.terms) v ≡ false) × (is_named (free_occurrences e.rule.right) v.0 ≡ false) × IsApart es v
+
+-- the same as a test
+abbrev pub are_apart : List RuleEntry → List ℕ × TypeTree → Bool
+are_apart [] v = true
+are_apart (e ∷ es) v = not (binds (map (λ p. p.1) e.stays.terms) v) && (not (is_named (free_occurrences e.rule.right) v.0) && are_apart es v)
 
 -- the variables that stay in some rule and those of the right sides, each once, after others
 abbrev pub rule_variables : List (List ℕ × TypeTree) → List RuleEntry → List (List ℕ × TypeTree)

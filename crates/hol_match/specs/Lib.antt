@@ -27,3 +27,4 @@ pub mod HeadNames
 pub mod Contracta
 pub mod Apart
 pub mod Binding
+pub mod Spared

@@ -1,5 +1,5 @@
 //! What a match leaves as it is: the variables and the type variables of some terms.
-ghost use Rattle.std.specs.Prelude.{◌≡◌, ◌∷◌, [], map, IfOk, OnOk, if◌then◌else◌, Some, None};
+ghost use Rattle.std.specs.Prelude.{◌≡◌, ◌∷◌, [], map, IfOk, OnOk, IsTrue, if◌then◌else◌, Some, None};
 ghost use Rattle.std.specs.List.{list_all};
 ghost use Rattle.hol_types.specs.Tree.{TyVar};
 ghost use Rattle.hol_types.specs.Names.{is_among};
@@ -41,6 +41,15 @@ impl Fixed {
         add_variables(variables, &self.variables)
     }
 
+    /// Whether these are the same, in one order.
+    #[tactic(auto, using(crate::proofs::Lookups::same_stays))]
+    pub(crate) fn is_same(&self, other: &Fixed) -> bool
+        ensures { IsTrue result → stays self.now ≡ stays other.now }
+    {
+        are_same_names(&self.names, &other.names)
+            && are_same_variables(&self.variables, &other.variables)
+    }
+
     /// Whether the type variable is one of these.
     #[tactic(auto, using(crate::proofs::Lookups::own_type))]
     pub(crate) fn has_name(&self, name: &Name) -> bool
@@ -70,6 +79,37 @@ impl Fixed {
         let names = term_tyvars(alloc, t)?;
         Ok(has_names(&self.names, &names))
     }
+}
+
+// Whether the names are the same, in one order.
+fn are_same_names(names: &[Name], others: &[Name]) -> bool
+    ensures { IsTrue result → names.now ≡ others.now }
+{
+    if names.len() != others.len() {
+        return false;
+    }
+    for (i, name) in names.iter().enumerate() {
+        if !name.same(&others[i]) {
+            return false;
+        }
+    }
+    true
+}
+
+// Whether the variables are the same, in one order.
+#[tactic(auto, using(crate::proofs::Lookups::equal_variables))]
+fn are_same_variables(variables: &[Variable], others: &[Variable]) -> bool
+    ensures { IsTrue result → variables.now ≡ others.now }
+{
+    if variables.len() != others.len() {
+        return false;
+    }
+    for (i, v) in variables.iter().enumerate() {
+        if !v.same(&others[i]) {
+            return false;
+        }
+    }
+    true
 }
 
 // Whether each of the variables is one of these.

@@ -1,10 +1,11 @@
 //! Sets of rules, and the first one that fits a term.
-ghost use Rattle.std.specs.Prelude.{◌≡◌, ◌<◌, ◌++◌, [], map, length, not, ◌||◌, IfOk, IfSome, IsFalse, IsTrue, OnOk, MatchOption, is_none, slice_get, Some, None};
+ghost use Rattle.std.specs.Prelude.{◌≡◌, ℕ, List, true, false, ◌<◌, ◌++◌, [], map, length, not, ◌||◌, IfOk, IfSome, IsFalse, IsTrue, OnOk, MatchOption, is_none, slice_get, Some, None};
 ghost use Rattle.std.specs.List.{AllByRecursion};
 ghost use Rattle.std.specs.List.Sorted.{IsStrictlySortedBy};
+ghost use Rattle.std.specs.BTreeMap.{get};
 ghost use Rattle.std.specs.Option.{option_map};
-ghost use Rattle.std.specs.Coded.{Coded-set, coded_ℕ, coded_list, coded_option};
-ghost use Rattle.hol_terms.specs.Code.{coded_variable};
+ghost use Rattle.std.specs.Coded.{Coded-set, coded_ℕ, coded_option};
+ghost use Rattle.hol_types.specs.Tree.{TypeTree};
 ghost use Rattle.hol_terms.specs.Named.{abs, named_type};
 ghost use Rattle.hol_terms.specs.Nameless.{nameless};
 ghost use Rattle.hol_subst.specs.AlphaOrder.{nameless_cmp};
@@ -12,7 +13,7 @@ ghost use Rattle.hol_subst.specs.Hypotheses.{hyp_of, hyps_of};
 ghost use Rattle.hol_kernel.specs.Given.{given_sequent};
 ghost use Rattle.hol_match.specs.RuleSets.{rule_entries, IsTypedRule, IsFit, entries, fit, first_entry, first_fit};
 ghost use Rattle.hol_match.specs.Contracta.{contracta, contracted, contractum, HasNoRedex};
-ghost use Rattle.hol_match.specs.Apart.{IsApart, AddsVariables, rule_variables};
+ghost use Rattle.hol_match.specs.Apart.{IsApart, AddsVariables, rule_variables, is_named, are_apart};
 ghost use Rattle.hol_match.specs.SetView.{set_rule, set_rules, set_given, set_givens, IsGivenIn, IsStated, AreOf, Adds, AddsFrom};
 ghost use Rattle.hol_match.specs.RuleView.{rule_values};
 ghost use Rattle.hol_match.specs.Ways.{rule_ways};
@@ -20,8 +21,8 @@ ghost use Rattle.hol_match.specs.Sources.{IsFrom};
 ghost use Rattle.hol_match.specs.Fixed.{stays};
 ghost use Rattle.hol_match.specs.Matches.{IsMatch};
 ghost use Rattle.hol_match.specs.Outlines.{is_variable, may_match, rules_depth, has_large_side, rules_pass_over};
-ghost use Rattle.hol_match.specs.Heads.{first_in, bucket_passes_over, earlier};
-ghost use Rattle.hol_match.specs.HeadView.{AreFirst, AreNext};
+ghost use Rattle.hol_match.specs.Heads.{is_in, is_bucketed, is_settled, first_in, first_settled, bucket_passes_over, earlier};
+ghost use Rattle.hol_match.specs.HeadView.{AreFirst, AreNext, ArePlaces, side_cmp};
 ghost use Rattle.hol_match.specs.HeadNames.{head_bits};
 
 use crate::binder::{Binder, add_rule_variables, binder_apart};
@@ -29,18 +30,23 @@ use crate::head_names::head_names;
 use crate::heads::Heads;
 use crate::instance::Instance;
 use crate::matching::match_with;
+use crate::once::{FEW, each_once};
 use crate::outline::{depth, is_variable, may_match};
 use crate::rule::Rule;
 use crate::set_rule::SetRule;
+use crate::settled::settled_rules;
+use crate::side::Side;
 use crate::source::Source;
 use hol_kernel::{Given, GivenNode};
 use hol_terms::{Term, Variable};
 use hol_types::NameFilter;
 use std::alloc::{AllocError, Global};
+use std::collections::BTreeMap;
 use std::rc::Rc;
 use std::slice;
 
-/// The rules of a list of theorems and assumed terms, in order. They are found by the constants at the heads of their left sides.
+/// The rules of a list of theorems and assumed terms, in order. They are found by the constants at the heads of their left sides, and of many
+/// rules those of whose left sides all stays by these.
 ///
 /// That `l = r` follows from a rule's theorem is shown by those who use it: from the theorem, generalized over the free variables that its
 /// hypotheses don't have, SPEC at the variables of the rule and CONJUNCT1, CONJUNCT2 on the way to its place, and then EQT_INTRO or EQF_INTRO
@@ -50,30 +56,46 @@ pub struct RuleSet {
     rules: Vec<SetRule>,
     variables: Vec<Variable>,
     heads: Heads,
+    many: bool,
+    loose: Heads,
+    settled: BTreeMap<Side, usize>,
     names: Option<NameFilter>,
-    ghost own: { variables.items ≡ rule_variables [] (set_rules rules.items) } by { Coded-set (coded_list coded_variable) variables.items (rule_variables [] (set_rules rules.items)) },
+    ghost own: { (v : List ℕ × TypeTree) → is_named variables.items v.0 ≡ false → are_apart (set_rules rules.items) v ≡ true },
     ghost named: { option_map (λ n. n.bits) names ≡ head_bits (set_rules rules.items) } by { Coded-set (coded_option coded_ℕ) (option_map (λ n. n.bits) names) (head_bits (set_rules rules.items)) },
     ghost some: { 0 < length heads.first.items },
     ghost long: { length heads.next.items ≡ length rules.items },
-    ghost first: { AreFirst rules.items heads.first.items },
-    ghost next: { AreNext (length heads.first.items) rules.items heads.next.items },
+    ghost first: { AreFirst false rules.items heads.first.items },
+    ghost next: { AreNext false (length heads.first.items) rules.items heads.next.items },
+    ghost loose_some: { 0 < length loose.first.items },
+    ghost loose_long: { length loose.next.items ≡ length rules.items },
+    ghost loose_first: { AreFirst many rules.items loose.first.items },
+    ghost loose_next: { AreNext many (length loose.first.items) rules.items loose.next.items },
+    ghost places: { ArePlaces rules.items settled } by { λ f g i q. Coded-set (coded_option coded_ℕ) (get side_cmp settled q) (first_settled 0 (set_rules rules.items) (nameless [] q.term)) (f q) (g q) i },
 }
 
 impl RuleSet {
     /// The rules of the theorems, and of assumed terms `p`, which are read as `{p} |- p`. The first of them that matches a term is the set's
-    /// first, so that a theorem that comes again adds none.
+    /// first, so that a theorem that comes again adds none, and of many rules none stands twice.
+    #[tactic(auto, using(crate::proofs::Spared::sparing))]
     pub fn new(alloc: Global, thms: &[Given]) -> Result<RuleSet, AllocError>
         ensures first { IfOk result (λ set. first_entry (set_rules set.rules.items) ≡ first_entry (rule_entries 0 (map given_sequent thms.now))) }
         ensures rules { IfOk result (λ set. contracta (set_rules set.rules.items) ≡ contracta (rule_entries 0 (map given_sequent thms.now))) }
         ensures given { IfOk result (λ set. AreOf thms.now set.rules.items) }
     {
-        let (rules, variables) = all_rules(alloc, thms)?;
-        let heads = Heads::of(alloc, &rules)?;
+        let (all, variables) = all_rules(alloc, thms)?;
+        let rules = each_once(alloc, all)?;
+        let heads = Heads::of(alloc, &rules, false)?;
+        let many = rules.len() > FEW;
+        let loose = Heads::of(alloc, &rules, many)?;
+        let settled = settled_rules(alloc, &rules)?;
         let names = head_names(&rules);
         Ok(RuleSet {
             rules,
             variables,
             heads,
+            many,
+            loose,
+            settled,
             names,
         })
     }
@@ -81,19 +103,61 @@ impl RuleSet {
     /// The number of the first rule that matches the term, and the match: the instance of its left side that is the term up to bound
     /// names, and leaves the variables and type variables of the theorem's hypotheses as they are.
     ///
-    /// Those tried are the rules in the bucket of the term's head constant, and those that have none at their heads.
-    #[tactic(auto, using(crate::proofs::Buckets::one_bucket))]
+    /// Those tried are the rules in the bucket of the term's head constant, and those that have none at their heads. Of many rules those of
+    /// whose left sides all stays are in no bucket: of these the first is tried that is the term up to bound names.
     pub fn find(&self, alloc: Global, t: &Term) -> Result<Option<(usize, Instance)>, AllocError>
         ensures first { IfOk result (λ found. MatchOption found (first_fit 0 (set_rules self.now.rules.items) (nameless [] t.now) ≡ None) (λ f. first_fit 0 (set_rules self.now.rules.items) (nameless [] t.now) ≡ Some (f.0, f.1))) }
         ensures fits { IfOk result (λ found. IfSome found (λ f. IsFit (set_rules self.now.rules.items) (nameless [] t.now) (f.0, f.1))) }
     {
-        let beside = self.first_in(alloc, 0, t)?;
-        let bucket = self.heads.bucket_of(t);
-        if bucket == 0 {
-            return Ok(beside);
+        if !self.many {
+            return self.bucketed_rule(alloc, t);
         }
+        let bucketed = self.bucketed_rule(alloc, t)?;
+        let settled = self.settled_rule(alloc, t)?;
+        Ok(earlier(bucketed, settled))
+    }
+
+    // The number of the first rule in a bucket that matches the term, and the match.
+    fn bucketed_rule(
+        &self,
+        alloc: Global,
+        t: &Term,
+    ) -> Result<Option<(usize, Instance)>, AllocError>
+        ensures first { IfOk result (λ found. MatchOption found (first_in (is_bucketed self.now.many) 0 (set_rules self.now.rules.items) (nameless [] t.now) ≡ None) (λ f. first_in (is_bucketed self.now.many) 0 (set_rules self.now.rules.items) (nameless [] t.now) ≡ Some (f.0, f.1))) }
+        ensures fits { IfOk result (λ found. IfSome found (λ f. IsFit (set_rules self.now.rules.items) (nameless [] t.now) (f.0, f.1))) }
+    {
+        let bucket = self.loose.bucket_of(t, self.many);
+        if bucket == 0 {
+            return self.first_in(alloc, 0, t);
+        }
+        let beside = self.first_in(alloc, 0, t)?;
         let own = self.first_in(alloc, bucket, t)?;
         Ok(earlier(beside, own))
+    }
+
+    // The number of the first rule that matches the term of those of which all stays, and the match.
+    #[tactic(auto, using(crate::proofs::Ground::finding, crate::proofs::RuleSets::is_fit))]
+    fn settled_rule(&self, alloc: Global, t: &Term) -> Result<Option<(usize, Instance)>, AllocError>
+        ensures first { IfOk result (λ found. MatchOption found (first_in is_settled 0 (set_rules self.now.rules.items) (nameless [] t.now) ≡ None) (λ f. first_in is_settled 0 (set_rules self.now.rules.items) (nameless [] t.now) ≡ Some (f.0, f.1))) }
+        ensures fits { IfOk result (λ found. IfSome found (λ f. IsFit (set_rules self.now.rules.items) (nameless [] t.now) (f.0, f.1))) }
+    {
+        let Some(i) = self.settled_place(t)? else {
+            return Ok(None);
+        };
+        match match_of(alloc, &self.rules[i], t)? {
+            Some(found) => Ok(Some((i, found))),
+            None => Ok(None),
+        }
+    }
+
+    // The number of the first rule of which all stays whose left side is the term up to bound names.
+    #[tactic(auto, using(crate::proofs::Ground::places))]
+    fn settled_place(&self, t: &Term) -> Result<Option<usize>, AllocError>
+        ensures place { IfOk result (λ place. place ≡ first_settled 0 (set_rules self.now.rules.items) (nameless [] t.now)) }
+        ensures within { IfOk result (λ place. IfSome place (λ i. i < length self.now.rules.items)) }
+    {
+        let side = Side::of(t)?;
+        Ok(self.settled.get(&side).copied())
     }
 
     // The number of the first rule in the bucket that matches the term, and the match.
@@ -103,16 +167,16 @@ impl RuleSet {
         bucket: usize,
         t: &Term,
     ) -> Result<Option<(usize, Instance)>, AllocError>
-        requires { bucket < length self.now.heads.first.items }
-        ensures first { IfOk result (λ found. MatchOption found (first_in (length self.now.heads.first.items) bucket 0 (set_rules self.now.rules.items) (nameless [] t.now) ≡ None) (λ f. first_in (length self.now.heads.first.items) bucket 0 (set_rules self.now.rules.items) (nameless [] t.now) ≡ Some (f.0, f.1))) }
+        requires { bucket < length self.now.loose.first.items }
+        ensures first { IfOk result (λ found. MatchOption found (first_in (is_in self.now.many (length self.now.loose.first.items) bucket) 0 (set_rules self.now.rules.items) (nameless [] t.now) ≡ None) (λ f. first_in (is_in self.now.many (length self.now.loose.first.items) bucket) 0 (set_rules self.now.rules.items) (nameless [] t.now) ≡ Some (f.0, f.1))) }
         ensures fits { IfOk result (λ found. IfSome found (λ f. IsFit (set_rules self.now.rules.items) (nameless [] t.now) (f.0, f.1))) }
     {
-        let mut i = self.heads.first[bucket];
+        let mut i = self.loose.first[bucket];
         'rules: while i < self.rules.len() {
             if let Some(found) = match_of(alloc, &self.rules[i], t)? {
                 return Ok(Some((i, found)));
             }
-            i = self.heads.next[i];
+            i = self.loose.next[i];
         }
         Ok(None)
     }
@@ -155,7 +219,7 @@ impl RuleSet {
     /// The variable and the body of the abstraction of `v`, where the variable is called by a name, with primes if need be, that keeps
     /// it apart from the rules: it stays in none and has the name of no variable of a right side. So what a rule makes of a part of the
     /// body is free of it where it was.
-    #[tactic(auto, using(crate::proofs::Apartness::apart_of))]
+    #[tactic(auto, using(crate::proofs::Apartness::apart_rules))]
     pub fn opened(&self, alloc: Global, v: &Variable, body: &Term) -> Result<Binder, AllocError>
         ensures same { IfOk result (λ o. nameless [] (abs o.variable o.body) ≡ nameless [] (abs v.now body.now)) }
         ensures typed { IfOk result (λ o. named_type o.body ≡ named_type body.now) }
@@ -179,7 +243,7 @@ impl RuleSet {
     pub fn passes_over(&self, t: &Term) -> bool
         ensures { result ≡ rules_pass_over (set_rules self.now.rules.items) (nameless [] t.now) }
     {
-        let bucket = self.heads.bucket_of(t);
+        let bucket = self.heads.bucket_of(t, false);
         self.bucket_passes_over(0, t) && self.bucket_passes_over(bucket, t)
     }
 
@@ -214,7 +278,8 @@ impl RuleSet {
     }
 }
 
-// Of two rules that match, the one with the lower number.
+// Of two rules that match, the one with the lower number. (It is asked at each part of a term.)
+#[inline(always)]
 fn earlier(a: Option<(usize, Instance)>, b: Option<(usize, Instance)>) -> Option<(usize, Instance)>
     ensures { result ≡ earlier a b }
 {
@@ -226,6 +291,7 @@ fn earlier(a: Option<(usize, Instance)>, b: Option<(usize, Instance)>) -> Option
 }
 
 // The match of the rule's left side with the term.
+#[inline(always)]
 #[tactic(auto, using(crate::proofs::RuleSets::fitting))]
 fn match_of(alloc: Global, rule: &SetRule, t: &Term) -> Result<Option<Instance>, AllocError>
     ensures fit { IfOk result (λ found. MatchOption found (fit (set_rule rule.now) (nameless [] t.now) ≡ None) (λ a. fit (set_rule rule.now) (nameless [] t.now) ≡ Some a)) }

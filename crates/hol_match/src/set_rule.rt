@@ -8,6 +8,7 @@ ghost use Rattle.hol_match.specs.Matches.{IsMatch};
 ghost use Rattle.hol_match.specs.Rules.{single_rule};
 ghost use Rattle.hol_match.specs.RuleView.{rule_value};
 ghost use Rattle.hol_match.specs.Fixed.{all_stay, stays};
+ghost use Rattle.hol_match.specs.Heads.{is_settled};
 ghost use Rattle.hol_match.specs.Ways.{rule_way, rule_code, way};
 ghost use Rattle.hol_match.specs.Sources.{source_whole, IsFrom, IsSound};
 
@@ -155,6 +156,14 @@ impl SetRule {
         ensures { IsTrue result → fit (set_rule self.now) (nameless [] t.now) ≡ None }
     {
         self.settled && !self.rule.left().alpha_equivalent(t)
+    }
+
+    /// Whether all of the left side stays.
+    #[tactic(auto, using(crate::proofs::Ground::settled))]
+    pub(crate) fn is_settled(&self) -> bool
+        ensures { result ≡ is_settled (set_rule self.now) }
+    {
+        self.settled
     }
 
     /// The number of its theorem in the list from which the set was made.

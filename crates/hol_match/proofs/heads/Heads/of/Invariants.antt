@@ -7,8 +7,8 @@ invariant-rules l = record {
   some : 0 < length l.heads.first.items;
   long : length l.heads.next.items ≡ length l.rules;
   within : l.left ≤ length l.rules;
-  first : FirstFrom l.left l.rules l.heads.first.items;
-  next : NextFrom l.left (length l.heads.first.items) l.rules l.heads.next.items;
+  first : FirstFrom l.loose l.left l.rules l.heads.first.items;
+  next : NextFrom l.loose l.left (length l.heads.first.items) l.rules l.heads.next.items;
 }
 
 abbrev pub decreases-rules : goal.decreases-rules

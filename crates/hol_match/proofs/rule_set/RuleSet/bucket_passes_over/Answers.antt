@@ -1,4 +1,4 @@
-use Rattle.std.proofs.Common.{rules, ◌<◌, ◌∙◌, [], length, sym, arith}
+use Rattle.std.proofs.Common.{rules, ◌<◌, ◌∙◌, false, [], length, sym, arith}
 use Rattle.hol_terms.specs.Nameless.{nameless}
 use Rattle.hol_match.proofs.Buckets.{over_start, over_here, over_next, is_later}
 use Rattle.hol_match.proofs.rule_set.RuleSet.bucket_passes_over.Goals as goal
@@ -24,7 +24,7 @@ rules-smaller c =
     let S = c.args.self.now in
     let within : c.rules.i < length S.rules.items = search rules in
     let later : c.rules.i < c.index-i-in-rules.result.now =
-    is_later (length S.heads.first.items) c.args.bucket S.rules.items (nameless [] c.args.t.now) c.rules.i c.index.result.now within c.index.ensures c.rules.invariant.on S.heads.next.items S.long S.next
+    is_later false (length S.heads.first.items) c.args.bucket S.rules.items c.rules.i c.index.result.now within c.index.ensures c.rules.invariant.on S.heads.next.items S.long S.next
     c.index-i-in-rules.result.now c.index-i-in-rules.ensures in
     omega (arith, within, later)
 

@@ -11,7 +11,7 @@ use Rattle.hol_match.proofs.rule_set.RuleSet.first_in.Goals as goal
 pub rules-init : goal.rules-init
 rules-init c =
     let S = c.args.self.now in
-    let s = first_start S.rules.items S.heads.first.items c.args.bucket (nameless [] c.args.t.now) c.requires S.first c.index-i.result.now c.index-i.ensures in
+    let s = first_start S.many S.rules.items S.loose.first.items c.args.bucket (nameless [] c.args.t.now) c.requires S.loose_first c.index-i.result.now c.index-i.ensures in
     record { first = s.0; on = s.1 }
 
 pub returns-in-Some-clause-first : goal.returns-in-Some-clause-first
@@ -20,7 +20,7 @@ returns-in-Some-clause-first c =
     let r = c.index.result.now in
     let within : c.rules.i < length S.rules.items = search rules in
     let fits : fit (set_rule r) (nameless [] c.args.t.now) ≡ Some c.in-Some.found = search rules in
-    c.rules.invariant.first ∙ first_here (length S.heads.first.items) c.args.bucket S.rules.items (nameless [] c.args.t.now) c.rules.i r within c.index.ensures c.rules.invariant.on c.in-Some.found fits
+    c.rules.invariant.first ∙ first_here S.many (length S.loose.first.items) c.args.bucket S.rules.items (nameless [] c.args.t.now) c.rules.i r within c.index.ensures c.rules.invariant.on c.in-Some.found fits
 
 pub returns-in-Some-clause-fits : goal.returns-in-Some-clause-fits
 returns-in-Some-clause-fits c =
@@ -36,7 +36,7 @@ rules-smaller c =
     let S = c.args.self.now in
     let within : c.rules.i < length S.rules.items = search rules in
     let later : c.rules.i < c.index-i-in-rules.result.now =
-    is_later (length S.heads.first.items) c.args.bucket S.rules.items (nameless [] c.args.t.now) c.rules.i c.index.result.now within c.index.ensures c.rules.invariant.on S.heads.next.items S.long S.next
+    is_later S.many (length S.loose.first.items) c.args.bucket S.rules.items c.rules.i c.index.result.now within c.index.ensures c.rules.invariant.on S.loose.next.items S.loose_long S.loose_next
     c.index-i-in-rules.result.now c.index-i-in-rules.ensures in
     omega (arith, within, later)
 
@@ -46,6 +46,6 @@ rules-preserved c =
     let r = c.index.result.now in
     let within : c.rules.i < length S.rules.items = search rules in
     let none : fit (set_rule r) (nameless [] c.args.t.now) ≡ None = search rules in
-    let s = first_next (length S.heads.first.items) c.args.bucket S.rules.items (nameless [] c.args.t.now) c.rules.i r within c.index.ensures c.rules.invariant.on S.heads.next.items S.long S.next
+    let s = first_next S.many (length S.loose.first.items) c.args.bucket S.rules.items (nameless [] c.args.t.now) c.rules.i r within c.index.ensures c.rules.invariant.on S.loose.next.items S.loose_long S.loose_next
     c.index-i-in-rules.result.now c.index-i-in-rules.ensures none in
     record { first = c.rules.invariant.first ∙ s.0; on = s.1 }
