@@ -26,3 +26,4 @@ pub mod Formulas
 pub mod Buckets
 pub mod HeadNames
 mod Spared
+mod RulesKept

@@ -21,6 +21,7 @@ pub mod Listed
 pub mod RuleSets
 pub mod Outlines
 pub mod SetView
+pub mod RulesKept
 pub mod Heads
 pub mod HeadView
 pub mod HeadNames

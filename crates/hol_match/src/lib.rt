@@ -8,6 +8,7 @@ mod fixed;
 mod head_names;
 mod heads;
 mod instance;
+mod kept_rules;
 pub mod laws;
 mod matching;
 mod once;
@@ -25,6 +26,7 @@ mod way;
 
 pub use binder::Binder;
 pub use instance::Instance;
+pub use kept_rules::KeptRules;
 pub use matching::{pattern_variables, term_match};
 pub use rule_set::RuleSet;
 pub use rule_step::RuleStep;

@@ -24,11 +24,13 @@ ghost use Rattle.hol_match.specs.Outlines.{is_variable, may_match, rules_depth, 
 ghost use Rattle.hol_match.specs.Heads.{is_in, is_bucketed, is_settled, first_in, first_settled, bucket_passes_over, earlier};
 ghost use Rattle.hol_match.specs.HeadView.{AreFirst, AreNext, ArePlaces, side_cmp};
 ghost use Rattle.hol_match.specs.HeadNames.{head_bits};
+ghost use Rattle.hol_match.specs.Spared.{IsSpared};
 
-use crate::binder::{Binder, add_rule_variables, binder_apart};
+use crate::binder::{Binder, binder_apart};
 use crate::head_names::head_names;
 use crate::heads::Heads;
 use crate::instance::Instance;
+use crate::kept_rules::{KeptRules, add_kept};
 use crate::matching::match_with;
 use crate::once::{FEW, each_once};
 use crate::outline::{depth, is_variable, may_match};
@@ -76,13 +78,39 @@ pub struct RuleSet {
 impl RuleSet {
     /// The rules of the theorems, and of assumed terms `p`, which are read as `{p} |- p`. The first of them that matches a term is the set's
     /// first, so that a theorem that comes again adds none, and of many rules none stands twice.
-    #[tactic(auto, using(crate::proofs::Spared::sparing))]
     pub fn new(alloc: Global, thms: &[Given]) -> Result<RuleSet, AllocError>
         ensures first { IfOk result (λ set. first_entry (set_rules set.rules.items) ≡ first_entry (rule_entries 0 (map given_sequent thms.now))) }
         ensures rules { IfOk result (λ set. contracta (set_rules set.rules.items) ≡ contracta (rule_entries 0 (map given_sequent thms.now))) }
         ensures given { IfOk result (λ set. AreOf thms.now set.rules.items) }
     {
         let (all, variables) = all_rules(alloc, thms)?;
+        RuleSet::made(alloc, all, variables)
+    }
+
+    /// The rules of the theorems, and of assumed terms, and then those that are kept, which aren't made anew.
+    pub fn with_kept(
+        alloc: Global,
+        thms: &[Given],
+        kept: &[KeptRules],
+    ) -> Result<RuleSet, AllocError>
+        ensures rules { IfOk result (λ set. contracta (set_rules set.rules.items) ≡ contracta (rule_entries 0 (map given_sequent (thms.now ++ kept.now)))) }
+        ensures given { IfOk result (λ set. AreOf (thms.now ++ kept.now) set.rules.items) }
+    {
+        let (mut all, mut variables) = all_rules(alloc, thms)?;
+        add_kept(alloc, &mut all, &mut variables, thms.len(), kept)?;
+        RuleSet::made(alloc, all, variables)
+    }
+
+    // The set of these rules, of which these are the variables; of many rules none stands twice.
+    #[tactic(auto, using(crate::proofs::Spared::sparing))]
+    fn made(
+        alloc: Global,
+        all: Vec<SetRule>,
+        variables: Vec<Variable>,
+    ) -> Result<RuleSet, AllocError>
+        requires { variables.items ≡ rule_variables [] (set_rules all.items) }
+        ensures { IfOk result (λ set. IsSpared all.items set.rules.items) }
+    {
         let rules = each_once(alloc, all)?;
         let heads = Heads::of(alloc, &rules, false)?;
         let many = rules.len() > FEW;
@@ -385,7 +413,6 @@ fn are_same(terms: &[Term], others: &[Term]) -> bool
 }
 
 // Puts the rules of the theorem of number `i` at the end, and their variables that are not there.
-#[tactic(auto, using(crate::proofs::RuleSets::adds))]
 fn add_theorem(
     alloc: Global,
     all: &mut Vec<SetRule>,
@@ -397,18 +424,13 @@ fn add_theorem(
     ensures given { OnOk result (AddsFrom i given.now all.old.items all.new.items) }
     ensures variables { OnOk result (AddsVariables (set_rules all.old.items) (set_rules all.new.items) variables.old.items variables.new.items) }
 {
-    let hyps = hypotheses(given);
-    let source = Source::of(alloc, given, hyps)?;
-    let rules = source.rules(alloc, hyps)?;
-    add_rule_variables(alloc, variables, source.fixed(), &rules)?;
-    let source = Rc::new(alloc, source)?;
-    add_rules(alloc, all, i, &source, &rules)?;
-    Ok(())
+    let own = KeptRules::of(alloc, given)?;
+    own.add_to(alloc, all, variables, i)
 }
 
-// The hypotheses, in the order of their set.
+/// The hypotheses, in the order of their set.
 #[tactic(auto, using(crate::proofs::RuleSets::one_ordered))]
-fn hypotheses(given: &Given) -> &[Term]
+pub(crate) fn hypotheses(given: &Given) -> &[Term]
     ensures set { hyps_of result.now ≡ (given_sequent given.now).hyps }
     ensures ordered { IsStrictlySortedBy nameless_cmp (map hyp_of result.now) }
 {
@@ -418,9 +440,9 @@ fn hypotheses(given: &Given) -> &[Term]
     }
 }
 
-// Puts the rules at the end, as those of the theorem of number `theorem`.
+/// Puts the rules at the end, as those of the theorem of number `theorem`.
 #[tactic(auto, using(crate::proofs::RuleSets::way_at, crate::proofs::RuleSets::given_pushed))]
-fn add_rules(
+pub(crate) fn add_rules(
     alloc: Global,
     all: &mut Vec<SetRule>,
     theorem: usize,

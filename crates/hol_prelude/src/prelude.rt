@@ -1,5 +1,6 @@
 //! The theorems of the prelude by their names.
 ghost use Rattle.std.specs.Prelude.{◌≡◌, ◌++◌, ◌∷◌, [], IfOk, MatchOption, Some, None, map, take, drop};
+ghost use Rattle.hol_kernel.specs.Given.{proved};
 ghost use Rattle.hol_kernel.specs.Items.{no_items};
 ghost use Rattle.hol_kernel.specs.Rules.{postulate_of};
 ghost use Rattle.hol_kernel.specs.Theorem.{theorem_on};
@@ -11,21 +12,25 @@ use hol_clauses::{
 };
 use hol_derived::applied::truth;
 use hol_formulas::Postulate;
-use hol_kernel::{Basis, Thm};
+use hol_kernel::{Basis, Given, Thm};
+use hol_match::KeptRules;
 use hol_types::Name;
 use std::alloc::{AllocError, Global};
 use std::marker::Model;
 
-/// The theorems of the prelude over no items, each with its name, the basic rewrites last.
+/// The theorems of the prelude over no items, each with its name, the basic rewrites last; and the rules of these, which are made once.
 #[derive(Drop)]
 pub struct Prelude {
     theorems: Vec<(Name, Thm)>,
+    basic: Vec<KeptRules>,
 }
 
 impl Model for Prelude {
-    ghost use Rattle.std.specs.Prelude.{◌≡◌, ℕ, List};
+    ghost use Rattle.std.specs.Prelude.{◌≡◌, ℕ, List, map};
+    ghost use Rattle.hol_kernel.specs.Given.{proved};
     ghost use Rattle.hol_kernel.specs.Theorem.{Theorem};
     ghost use Rattle.hol_prelude.specs.Prelude.{prelude_theorems, theorems_code};
+    ghost use Rattle.hol_prelude.specs.Statements.{basic_rewrites};
 
     ghost Value = { List (List ℕ × Theorem) };
 
@@ -33,7 +38,7 @@ impl Model for Prelude {
 
     ghost view = { λ p. p.theorems.items };
 
-    ghost invariant = { λ p. p.theorems.items ≡ prelude_theorems };
+    ghost invariant = { λ p. (p.theorems.items ≡ prelude_theorems) × (p.basic.items ≡ map proved basic_rewrites) };
 }
 
 impl Prelude {
@@ -44,7 +49,8 @@ impl Prelude {
         let mut theorems = Vec::new(alloc);
         add_given(alloc, &mut theorems)?;
         add_rewrites(alloc, &mut theorems)?;
-        Ok(Prelude { theorems })
+        let basic = kept_rules(alloc, &theorems[15..])?;
+        Ok(Prelude { theorems, basic })
     }
 
     /// The theorem of the name, and `None` of another name.
@@ -54,13 +60,24 @@ impl Prelude {
         find(&self.theorems, name)
     }
 
-    /// The basic rewrites in their order, each with its name.
-    pub fn basic(&self) -> &[(Name, Thm)]
-        ensures named { result.now ≡ drop 15 prelude_theorems }
-        ensures rewrites { map (λ e. e.1) result.now ≡ basic_rewrites }
+    /// The rules of the basic rewrites, in their order.
+    pub fn basic(&self) -> &[KeptRules]
+        ensures { result.now ≡ map proved basic_rewrites }
     {
-        &self.theorems[15..]
+        &self.basic
     }
+}
+
+// The rules of the theorems.
+fn kept_rules(alloc: Global, entries: &[(Name, Thm)]) -> Result<Vec<KeptRules>, AllocError>
+    ensures { IfOk result (λ kept. kept.items ≡ map proved (map (λ e. e.1) entries.now)) }
+{
+    let mut kept = Vec::new(alloc);
+    for entry in entries {
+        let given = Given::theorem(&entry.1)?;
+        kept.push(KeptRules::of(alloc, &given)?)?;
+    }
+    Ok(kept)
 }
 
 // The theorem of the name in the list.

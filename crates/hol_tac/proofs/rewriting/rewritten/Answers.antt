@@ -11,15 +11,15 @@ use Rattle.hol_tac.proofs.rewriting.rewritten.Goals as goal
 
 -- the rules make of each term what those of all that is given make of it
 pub returns-clause-answer : goal.returns-clause-answer
-returns-clause-answer c =
+returns-clause-answer c = λ givens is.
     let outcome = λ (f : List TypeTree → Nameless → Option Nameless) (n : Nameless). all_turns (λ t. turn f [] t) c.args.turns n in
-    let rules = contracta (set_rules c.in_ok-rules.rules.rules.items) in
-    let asked = contracta (rules_by c.args.givens.now) in
+    let rules = contracta (set_rules c.args.rules.now.rules.items) in
+    let asked = contracta (rules_by givens) in
     let tells : Tells c.rewrite-outcome.result (outcome rules c.args.goal.now.conclusion) = subst (λ n. Tells c.rewrite-outcome.result (outcome rules n)) c.conclusion.ensures.term c.rewrite-outcome.ensures.tells in
     c.converted.ensures.answer (outcome asked c.args.goal.now.conclusion) c.args.turns
-    (subst (λ f. Tells c.rewrite-outcome.result (outcome f c.args.goal.now.conclusion)) c.in_ok-rules.ensures.rules tells)
+    (subst (λ f. Tells c.rewrite-outcome.result (outcome f c.args.goal.now.conclusion)) is tells)
 
 pub returns-clause-valid : goal.returns-clause-valid
-returns-clause-valid c =
-    c.converted.ensures.valid c.args.givens.now
-    (used_given c.args.givens.now c.in_ok-rules.rules.rules.items c.rewrite-outcome.result c.in_ok-rules.ensures.given c.rewrite-outcome.ensures.used)
+returns-clause-valid c = λ givens are.
+    c.converted.ensures.valid givens
+    (used_given givens c.args.rules.now.rules.items c.rewrite-outcome.result are c.rewrite-outcome.ensures.used)

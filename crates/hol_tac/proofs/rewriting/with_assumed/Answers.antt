@@ -1,12 +1,22 @@
-use Rattle.std.proofs.Common.{◌∙◌, ◌++◌, map, ap, append_assoc}
-use Rattle.hol_kernel.specs.Given.{assumed, proved}
-use Rattle.hol_just.specs.ConversionTacs.{basic}
+use Rattle.std.proofs.Common.{◌≡◌, ◌∙◌, ◌++◌, ap, map, subst, append_assoc}
+use Rattle.std.proofs.lemmas.Result.{IfOk-weaker}
+use Rattle.hol_kernel.specs.Given.{assumed}
+use Rattle.hol_match.specs.Contracta.{contracta}
+use Rattle.hol_match.specs.SetView.{AreOf}
+use Rattle.hol_just.specs.ConversionTacs.{basic, rules_by}
 use Rattle.hol_tac.proofs.rewriting.with_assumed.Goals as goal
 
-pub returns : goal.returns
+-- what is given, in order
+whole : (c : goal.After-drop-givens-2) → c.deref.result.now ++ c.basic.result.now ≡ c.args.ths.now ++ (map assumed c.args.goal.now.assumptions ++ basic)
 unfolding basic
-returns c =
-    c.in_ok-add_theorems.ensures ∙ (λ i. c.in_ok-add_assumed.ensures i ++ map proved (c.basic.ensures.rewrites i))
-    ∙ (λ i. (c.in_ok-add_givens.ensures i ++ map assumed (c.assumptions.ensures.terms i)) ++ basic)
-    ∙ ap (λ xs. ((xs ++ c.args.ths.now) ++ map assumed c.args.goal.now.assumptions) ++ basic) c.new-givens.ensures.items
-    ∙ append_assoc c.args.ths.now (map assumed c.args.goal.now.assumptions) basic
+whole c =
+    let more = map assumed c.args.goal.now.assumptions in
+    let put : c.add_assumed.new.to.items ≡ c.args.ths.now ++ more =
+    c.in_ok-add_assumed.ensures ∙ (λ i. c.in_ok-add_givens.ensures i ++ map assumed (c.assumptions.ensures.terms i)) ∙ ap (λ xs. (xs ++ c.args.ths.now) ++ more) c.new-givens.ensures.items in
+    (λ i. (c.deref.ensures.value ∙ put) i ++ c.basic.ensures i) ∙ append_assoc c.args.ths.now more basic
+
+pub returns-clause-rules : goal.returns-clause-rules
+returns-clause-rules c = IfOk-weaker c.with_kept.result _ _ (λ set is. is ∙ ap (λ gs. contracta (rules_by gs)) (whole c)) c.with_kept.ensures.rules
+
+pub returns-clause-given : goal.returns-clause-given
+returns-clause-given c = IfOk-weaker c.with_kept.result _ _ (λ set are. subst (λ gs. AreOf gs set.rules.items) (whole c) are) c.with_kept.ensures.given

@@ -8,5 +8,5 @@ use Rattle.hol_prelude.proofs.prelude.Prelude.get.Goals as goal
 pub returns : goal.returns
 returns c =
     let name = c.args.name.now in
-    let same : theorem_in c.deref.result.now name ≡ prelude_theorem name = ap (λ (es : List Entry). theorem_in es name) (c.deref.ensures.value ∙ c.self.invariant) ∙ named_found prelude_statements name in
+    let same : theorem_in c.deref.result.now name ≡ prelude_theorem name = ap (λ (es : List Entry). theorem_in es name) (c.deref.ensures.value ∙ c.self.invariant.0) ∙ named_found prelude_statements name in
     found (λ th. theorem_in c.deref.result.now name ≡ Some th.now) (λ th. prelude_theorem name ≡ Some th.now) c.find.result (λ e. sym same ∙ e) (λ th e. sym same ∙ e) c.find.ensures

@@ -1,6 +1,0 @@
-use Rattle.std.proofs.Common.{◌≡◌, ◌++◌, map, take}
-use Rattle.hol_kernel.specs.Given.{proved}
-use Rattle.hol_tac.proofs.rewriting.add_theorems.Given as goal
-
-abbrev pub invariant-loop-entry : goal.invariant-loop-entry
-invariant-loop-entry l = l.to.items ≡ l.fn.to.items ++ map proved (map (λ e. e.1) (take l.entry-index l.entries))
