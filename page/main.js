@@ -452,9 +452,10 @@ class Page {
     let { edit } = action;
     const { active } = this;
     if (!edit) {
-      button.disabled = true;
-      button.textContent = 'Searching …';
-      edit = (await this.bridge.request('codeAction/resolve', action, (words) => this.tell(words)))?.edit;
+      const asked = this.bridge.request('codeAction/resolve', action, (words) => this.tell(words));
+      button.textContent = 'Searching … end it';
+      button.onclick = () => this.bridge.cancel(asked.number);
+      edit = (await asked)?.edit;
       this.fixedVersion = -1;
       this.settled();
     }

@@ -10,7 +10,7 @@ from dataclasses import dataclass
 from functools import lru_cache
 from typing import List, Optional, Sequence, Tuple, Union
 
-from holls import declaring, notation, protocol, words
+from holls import declaring, manual, notation, protocol, words
 from holls.files import File
 from holls.found import Finding, Severity
 from holls.meant import Meant
@@ -135,6 +135,8 @@ class _Walk:
         if is_told:
             return
         first = " ".join(command.text.split()[:2])
+        if refusal.number == protocol.TOO_LARGE and command.package.word in manual.PACKAGES:
+            text = "too large: fewer constructors, clauses or arguments"
         told = command.plain.told or "this %s stands for several commands, and the program refuses one of them, `%s ..`: %s" % (command.package.word, first, text)
         if cause is not None and command.word == "oops":
             told = "%s (after the error on line %d)" % (text, self.line(cause))

@@ -120,7 +120,49 @@ local function run()
   end)
 end
 
-local fine, failure = pcall(vim.env.BEGIN and begin or run)
+-- Whether the lines of the buffer are these within the time.
+local function become(lines)
+  return vim.wait(seconds * 1000, function() return vim.deep_equal(vim.api.nvim_buf_get_lines(0, 0, -1, false), lines) end, 20)
+end
+
+-- A proof that is found, another name for its theorem, why none is found, and a search that is ended.
+local function find()
+  results.told = {}
+  vim.notify = function(text) table.insert(results.told, text) end
+  vim.api.nvim_echo = function(chunks) results.trying = results.trying or chunks[1][1]:match('%d s%)') and chunks[1][1] end
+  vim.ui.select = function(items, _, choose)
+    for at, item in ipairs(items) do
+      if (item.action or item[2]).title == 'Find a proof' then
+        choose(item, at)
+      end
+    end
+  end
+  local function search(goal, answered)
+    vim.api.nvim_buf_set_lines(0, 0, -1, false, { 'g A `' .. goal .. '`;;' })
+    vim.api.nvim_win_set_cursor(0, { 1, 2 })
+    vim.wait(seconds * 1000, function() return goals():match('1 goal') ~= nil and goals():find(goal, 1, true) ~= nil end, 20)
+    vim.lsp.buf.code_action()
+    return vim.wait(seconds * 1000, answered, 20)
+  end
+  vim.cmd('edit ' .. folder .. '/F.hol')
+  vim.cmd('HolGoals')
+  search('x = x', function() return vim.api.nvim_buf_line_count(0) == 2 end)
+  results.found = vim.api.nvim_buf_get_lines(0, 0, -1, false)
+  vim.api.nvim_win_set_cursor(0, { 1, 2 })
+  vim.lsp.buf.rename('BETTER')
+  results.renamed = become({ 'g BETTER `x = x`;;', 'e REFL_TAC;;' })
+  search('p ==> q', function() return #results.told > 0 end)
+  local hard = '(!x. R x (f x)) /\\ (!x y z. R x y /\\ R y z ==> R x z) ==> (?x. R x x)'
+  results.trying = nil
+  search(hard, function()
+    if results.trying then
+      require('holls').cancel()
+    end
+    return #results.told > 1
+  end)
+end
+
+local fine, failure = pcall(vim.env.BEGIN and begin or vim.env.FIND and find or run)
 results.failure = not fine and tostring(failure) or nil
 local out = io.open(vim.env.RESULTS, 'w')
 out:write(vim.json and vim.json.encode(results) or vim.fn.json_encode(results))

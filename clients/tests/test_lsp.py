@@ -165,6 +165,7 @@ class Bridging(unittest.TestCase):
     def test_what_can_be_done_is_told_right_behind_an_edit_and_soon_where_a_command_runs_on(self):
         editor = self.editor()
         editor.open(self.uri, "g A `loop = loop`;;\n")
+        editor.goals(self.uri, 0, 3)  # The program has begun.
         self.assertIn("Find a proof", self.actions(editor, 0))
         editor.change(self.uri, 2, "e HANG_TAC;;\n", ((1, 0), (1, 0)))
         self.assertEqual(self.actions(editor, 1), [])

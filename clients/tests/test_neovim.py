@@ -49,6 +49,16 @@ class InNeovim(unittest.TestCase):
         self.assertEqual([one for one in begun if "no answer" in one], [])
         self.assertEqual(begun[-1], "no proof is open", begun)
 
+    def test_a_proof_is_found_and_a_name_is_changed(self):
+        with tempfile.TemporaryDirectory() as name:
+            (pathlib.Path(name) / "F.hol").write_text("g A `x = x`;;\n")
+            found = self.run_in(pathlib.Path(name), FIND="yes")
+        self.assertNotIn("failure", found)
+        self.assertEqual((found["found"], found["renamed"]), (["g A `x = x`;;", "e REFL_TAC;;"], True))
+        self.assertIn("the goal is false for p = T, q = F", found["told"][0])
+        self.assertIn("the search was cancelled", found["told"][1])
+        self.assertRegex(found["trying"], r"\AFinding a proof: .* \([0-9.]+ s\)\Z")
+
     def run_in(self, folder, **more):
         server = fake(folder, "--fault", "die:2950", "--once", str(folder / "once"))
         given = dict(os.environ, **more, FOLDER=str(folder), RESULTS=str(folder / "results"), PYTHON=sys.executable, HOLLS=str(HOLLS), SERVER=server,

@@ -572,6 +572,8 @@ class OverTheProgram(unittest.TestCase):
         text += "g MANY `!x y. ~((R1 x:A rich) = R31 y) /\\ ~(P63 = P0)`;;\ne REWRITE_TAC [distinctness \"rich\"; distinctness \"plain\"; FORALL_SIMP];;\nqed;;\n"
         status, said = checked(text, "--alone", "--no-axioms")
         self.assertEqual(status, 0, said)
+        status, said = checked("define_type rich = %s;;\n" % " | ".join(rich[number % 4] % number for number in range(64)), "--alone")
+        self.assertIn("the program refuses one of them, `e MP_TAC ..`: too large: fewer constructors, clauses or arguments\n", said)
         self.assertIn("at most 64 constructors", told("define_type q = %s;;" % " | ".join("Q%d" % number for number in range(65)))[0][1])
 
     def test_many_constructors_with_arguments_are_accepted(self):

@@ -413,10 +413,27 @@ class Program(InBrowser):
     def test_a_proof_is_found(self):
         shown = self.open()
         self.write("import logic;;\ng A `(!x:A. P x ==> Q x) /\\ P a ==> ?x. Q x`;;\n")
-        self.settled()
-        shown.until("[...document.querySelectorAll('#fixes button')].some(({ textContent }) => textContent === 'Find a proof')")
-        shown.value("[...document.querySelectorAll('#fixes button')].find(({ textContent }) => textContent === 'Find a proof').click()")
+        self.press("Find a proof")
         shown.until("document.querySelector('#goals .done')")
+        self.press("Instead: e STRIP_TAC THEN EXISTS_TAC `a:A` THEN ACCEPT_TAC")
+        shown.until("window.page.active.text.split('\\ne ').length === 2 && document.querySelector('#goals .done')")
+
+    def test_why_no_proof_is_found_is_told_and_a_search_can_be_ended(self):
+        shown = self.open("?seconds=600")
+        self.write("g A `p ==> q`;;\n")
+        self.press("Find a proof")
+        shown.until("document.getElementById('progress').textContent.includes('the goal is false for p = T, q = F')")
+        self.write("g A `(!x:A. R x (f x)) /\\ (!x y z. R x y /\\ R y z ==> R x z) ==> ?x. R x x`;;\n")
+        self.press("Find a proof")
+        shown.until("/ \\([0-9.]+ s\\)$/.test(document.getElementById('progress').textContent)")
+        self.press("Searching … end it")
+        shown.until("document.getElementById('progress').textContent.includes('cancelled')")
+
+    def press(self, words):
+        """Presses the button of what could be done that begins with some words, once it is there."""
+        found = "[...document.querySelectorAll('#fixes button')].find(({ textContent }) => textContent.startsWith(%s))" % json.dumps(words)
+        self.page.until(found + " !== undefined")
+        self.page.value(found + ".click()")
 
     def test_speed(self):
         """Prints what it measures: a machine that does much else has no bound to keep."""

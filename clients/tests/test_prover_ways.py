@@ -21,6 +21,7 @@ from holls.prover.shown import Shown
 from holls.prover.warm import Request, Warm
 from tests import prover_goals
 from tests.helpers import BUILT, HOLLS, PYTHON, ROOT, SECONDS
+from tests.test_lsp import Editor
 
 
 def library(*names):
@@ -287,3 +288,24 @@ class Commands(unittest.TestCase):
         self.assertEqual([path.name for path in (self.folder / "holls").iterdir()], [])
         self.assertEqual(self.prove(4, "--json"), first)
 
+    def test_an_editors_server_answers_it_too(self):
+        program = self.folder / "program"
+        program.write_text("#!/bin/sh\nexec '%s' \"$@\"\n" % BUILT)
+        program.chmod(0o755)
+        with mock.patch.dict(os.environ, self.environment):
+            editor = Editor(str(program))
+            self.addCleanup(editor.kill)
+            editor.begin()
+            path = self.folder / "mine.hol"
+            editor.open(path.as_uri(), path.read_text())
+            editor.goals(path.as_uri(), 3, 0)
+            span = {side: {"line": 3, "character": 0} for side in ("start", "end")}
+            given = {"textDocument": {"uri": path.as_uri()}, "range": span, "context": {"diagnostics": []}}
+            action = next(one for one in editor.ask("textDocument/codeAction", given) if one["title"] == "Find a proof")
+            steps = editor.ask("codeAction/resolve", action)["edit"]["changes"][path.as_uri()][0]["newText"]
+        program.write_text("#!/bin/sh\nexit 1\n")  # So no other one can be begun.
+        words = [*PYTHON, str(HOLLS), "prove", "%s:4" % path, "--server", str(program)]
+        done = subprocess.run(words, capture_output=True, timeout=SECONDS, text=True, env=self.environment)
+        self.assertEqual((done.returncode, done.stdout.strip()), (0, steps.strip()), done.stderr)
+        self.assertEqual(editor.end(), 0)
+        self.assertEqual([one.name for one in (self.folder / "holls").iterdir()], [])

@@ -49,6 +49,11 @@ class InVSCode(unittest.TestCase):
         self.assertEqual((found["symbols"], found["lenses"], found["completions"]), ([["A", 11]], 0, True))
         self.assertEqual(found["actions"], [
             ["Give the proof up by oops", "\noops;;"], ["Find a proof", "a search"], ["Simplify the goal", "a search"]])
+        self.assertEqual((found["ended"], found["found"]), ("the search was cancelled", "\ne REFL_TAC;;"))
+        self.assertRegex(found["tried"][0], r" \([0-9.]+ s\)\Z")
+        self.assertIn("the goal is false for", found["why"])
+        self.assertEqual((found["mayRename"], found["renamed"]), (2, ["BETTER"]))
+        self.assertIn("is a word of the language", found["notRenamed"])
         self.assertEqual((found["symbolOf"], found["references"], found["links"]), (["A"], 1, 0))
         self.assertEqual((found["signature"], [one[0] for one in found["searched"]]), ("MATCH_MP_TAC th", ["INFINITY_AX", "SELECT_AX"]))
         self.assertEqual((found["typed"], found["settled"]), (["INFINITY_AX", "SELECT_AX", [13, 20, "∀"]], True))

@@ -34,7 +34,8 @@ const file = {
   getText() { return this.text; }, lineAt(line) { return { text: this.text.split('\n')[line] }; },
 };
 const goals = { document: { uri: Uri.parse('hol-goals:goals'), languageId: 'plaintext' } };
-const results = { searched: [], commands: [] };
+const results = { searched: [], commands: [], tried: [] };
+let endSearch = false; // Whether the user ends a search as soon as it has begun.
 const typed = [];
 const editor = {
   document: file, setDecorations: (kind, ranges) => { results.unknown = ranges.length; },
@@ -48,7 +49,7 @@ const vscode = {
   Position, Range, EventEmitter, Uri,
   Diagnostic: plain('range', 'message', 'severity'), Hover: plain('contents', 'range'), MarkdownString: plain('value'),
   Location: plain('uri', 'range'), DocumentSymbol: plain('name', 'detail', 'kind', 'range', 'selectionRange'),
-  FoldingRange: plain('start', 'end', 'kind'), FoldingRangeKind: { Comment: 1, Region: 3 }, CompletionItem: plain('label', 'kind'),
+  FoldingRange: plain('start', 'end', 'kind'), FoldingRangeKind: { Comment: 1, Region: 3 }, ProgressLocation: { Notification: 15 }, CompletionItem: plain('label', 'kind'),
   CodeLens: plain('range'), ViewColumn: { Beside: -2 }, SymbolInformation: plain('name', 'kind', 'containerName', 'location'),
   DocumentLink: plain('range', 'target'), CodeAction: plain('title', 'kind'), CodeActionKind: { QuickFix: 'quickfix' }, SignatureHelp: plain(),
   SignatureInformation: plain('label', 'documentation'), ParameterInformation: plain('label'),
@@ -60,7 +61,7 @@ const vscode = {
     registerCompletionItemProvider: (language, provider) => { providers.completions = provider; return { dispose() {} }; },
     registerCodeLensProvider: register('lenses'), registerReferenceProvider: register('references'),
     registerWorkspaceSymbolProvider: register('allSymbols'), registerDocumentLinkProvider: register('links'),
-    registerCodeActionsProvider: register('actions'),
+    registerCodeActionsProvider: register('actions'), registerRenameProvider: register('renames'),
     registerSignatureHelpProvider: (language, provider) => { providers.signature = provider; return { dispose() {} }; },
   },
   workspace: {
@@ -70,6 +71,9 @@ const vscode = {
   },
   window: {
     activeTextEditor: editor, visibleTextEditors: [editor, goals], showTextDocument: async () => goals,
+    withProgress: async (options, work) => work(
+      { report: ({ message }) => results.tried.push(message) }, { onCancellationRequested: (end) => { if (endSearch) end(); } }),
+    showInformationMessage: (message) => { results.told = message; },
     createTextEditorDecorationType: () => ({}), showInputBox: async () => query,
     showQuickPick: async (items) => { results.searched.push(items.map((one) => one.label)); return items[0]; },
     showErrorMessage: (message) => shown.push(message), onDidChangeTextEditorSelection: on('selection'),
@@ -119,17 +123,40 @@ async function run() {
   results.lenses = (await providers.lenses.provideCodeLenses(file)).length;
   results.completions = (await providers.completions.provideCompletionItems(file, new Position(1, 2))).length > 40;
   results.actions = (await providers.actions.provideCodeActions(file, new Range(0, 0, 0, 1))).map((one) => [one.title, one.edit ? one.edit.edits[0][2] : 'a search']);
+  let goal = 'p /\\ q';
+  const search = async (text) => { // Of a proof of another goal in the first line, once the bridge has it.
+    file.version += 1;
+    events.change({ document: file, contentChanges: [{ range: new Range(0, 5, 0, 5 + goal.length), text }] });
+    goal = text;
+    results.told = '';
+    for (;;) {
+      const offered = (await providers.actions.provideCodeActions(file, new Range(0, 0, 0, 1))).find((one) => one.title === 'Find a proof');
+      if (offered) return (await providers.actions.resolveCodeAction(offered)).edit;
+      await new Promise((go) => setTimeout(go, 20));
+    }
+  };
+  endSearch = true;
+  await search('(!x:A. R x (f x)) /\\ (!x y z. R x y /\\ R y z ==> R x z) ==> ?x. R x x'); // Which has no proof, and is true of finitely many.
+  results.ended = results.told;
+  endSearch = false;
+  results.found = (await search('x = x')).edits[0][2];
+  await search('p /\\ q');
+  results.why = results.told;
+  const told = (answer) => answer.then((made) => made.edits || made, (error) => error.message);
+  results.mayRename = (await told(providers.renames.prepareRename(file, new Position(0, 2)))).start.character;
+  results.renamed = (await told(providers.renames.provideRenameEdits(file, new Position(0, 2), 'BETTER'))).map((edit) => edit[2]);
+  results.notRenamed = await told(providers.renames.provideRenameEdits(file, new Position(0, 2), 'THEN'));
   results.symbolOf = (await providers.allSymbols.provideWorkspaceSymbols('a')).map((one) => one.name);
   results.references = (await providers.references.provideReferences(file, new Position(0, 2))).length;
   results.links = (await providers.links.provideDocumentLinks(file)).length;
-  file.version = 3;
+  file.version += 1;
   events.change({ document: file, contentChanges: [{ range: new Range(3, 0, 3, 0), text: 'e MATCH_MP_TAC ' }] });
   results.signature = (await providers.signature.provideSignatureHelp(file, new Position(3, 15))).signatures[0].label;
   await providers['holls.search']();
   query = '_ ==> P (_)';
   await providers['holls.searchConclusions']();
   settings = { ...given, symbols: true };
-  file.version = 4;
+  file.version += 1;
   file.text = 'g A `p /\\and \\forall ';
   for (const at of [12, 20]) events.change({ document: file, contentChanges: [{ range: new Range(0, at, 0, at), text: ' ' }] });
   await until(() => results.unknown === 0);

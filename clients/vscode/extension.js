@@ -12,6 +12,7 @@ const SCHEMES = ['file', 'untitled']; // Not those of an earlier version beside 
 const SELECTOR = SCHEMES.map((scheme) => ({ language: LANGUAGE, scheme }));
 const GOALS = vscode.Uri.parse('hol-goals:goals');
 const SEEN_MILLISECONDS = 50;
+const CAPABILITIES = { window: { workDoneProgress: true }, workspace: { codeLens: { refreshSupport: true } } };
 const SYMBOLS = {
   forall: '∀', exists: '∃', unique: '∃!', lambda: 'λ', select: 'ε', and: '∧', or: '∨', not: '¬', implies: '⇒', iff: '⇔', to: '→',
   in: '∈', union: '∪', inter: '∩', diff: '∖', subset: '⊆', psubset: '⊂', empty: '∅', leq: '≤', geq: '≥', times: '×', circ: '∘',
@@ -24,6 +25,7 @@ let goalsText = '';
 let isPlain = false; // Whether goals are shown as the program says them.
 let asked = 0;
 let timer = null;
+let searching = null; // What hears of the search for a proof that is under way.
 const goalsChanged = new vscode.EventEmitter();
 const lensesChanged = new vscode.EventEmitter();
 const unknown = new Map(); // The ranges that aren't known yet, by the documents' addresses.
@@ -56,7 +58,7 @@ async function start() {
   });
   bridge = mine;
   try {
-    await mine.request('initialize', { processId: process.pid, rootUri: null, capabilities: { workspace: { codeLens: { refreshSupport: true } } } });
+    await mine.request('initialize', { processId: process.pid, rootUri: null, capabilities: CAPABILITIES });
   } catch (error) {
     return;
   }
@@ -76,6 +78,8 @@ function heard(method, params) {
   } else if (method === '$/hol/fileProgress') {
     unknown.set(params.textDocument.uri, params.processing.map((found) => range(found.range)));
     showUnknown();
+  } else if (method === '$/progress') {
+    if (searching && String(params.token).startsWith('holls/search/')) searching(params);
   } else if (method === 'workspace/codeLens/refresh') {
     lensesChanged.fire();
   } else if (method === 'window/showMessage') {
@@ -223,6 +227,11 @@ async function request(method, params, refused = () => {}) {
   }
 }
 
+// A request whose failure the editor tells.
+function told(method, params) {
+  return bridge ? bridge.request(method, params) : Promise.reject(new Error("the bridge doesn't run"));
+}
+
 function workspaceEdit(given) {
   const made = new vscode.WorkspaceEdit();
   for (const [uri, edits] of Object.entries(given.changes)) {
@@ -276,10 +285,24 @@ const providers = {
       return Object.assign(action, one.edit ? { edit: workspaceEdit(one.edit) } : { found: one });
     });
   },
-  // An action without an edit is a search, which is made once the action is chosen.
+  // An action without an edit is a search, which is made once the action is chosen. What it tries is shown, and it can be ended.
   async action(action) {
-    const found = await request('codeAction/resolve', action.found, (error) => vscode.window.showInformationMessage(error.message));
+    const shown = { location: vscode.ProgressLocation.Notification, title: action.found.title, cancellable: true };
+    const found = await vscode.window.withProgress(shown, (progress, ending) => {
+      searching = ({ token, value }) => {
+        if (value.kind === 'begin') ending.onCancellationRequested(() => bridge && bridge.notify('window/workDoneProgress/cancel', { token }));
+        if (value.message) progress.report({ message: value.message });
+      };
+      return request('codeAction/resolve', action.found, (error) => { vscode.window.showInformationMessage(error.message); });
+    });
+    searching = null;
     return Object.assign(action, found ? { edit: workspaceEdit(found.edit) } : {});
+  },
+  async mayRename(document, position) {
+    return range(await told('textDocument/prepareRename', at(document, position)));
+  },
+  async rename(document, position, newName) {
+    return workspaceEdit(await told('textDocument/rename', { ...at(document, position), newName }));
   },
   async signature(document, position) {
     const found = await request('textDocument/signatureHelp', at(document, position));
@@ -309,6 +332,7 @@ function register() {
     languages.registerFoldingRangeProvider(SELECTOR, { provideFoldingRanges: providers.foldings }),
     languages.registerCompletionItemProvider(SELECTOR, { provideCompletionItems: providers.completions }, '\\'),
     languages.registerReferenceProvider(SELECTOR, { provideReferences: providers.references }),
+    languages.registerRenameProvider(SELECTOR, { prepareRename: providers.mayRename, provideRenameEdits: providers.rename }),
     languages.registerWorkspaceSymbolProvider({ provideWorkspaceSymbols: providers.allSymbols }),
     languages.registerDocumentLinkProvider(SELECTOR, { provideDocumentLinks: providers.links }),
     languages.registerCodeActionsProvider(SELECTOR, { provideCodeActions: providers.actions, resolveCodeAction: providers.action }),

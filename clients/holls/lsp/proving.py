@@ -5,6 +5,7 @@ from __future__ import annotations
 
 import re
 import threading
+import time
 from dataclasses import dataclass, field
 from typing import TYPE_CHECKING, Any, Dict, List, Optional, Tuple
 
@@ -169,7 +170,7 @@ class Progress:
         self._bridge = bridge
         self._is_shown = False
         self._count = 0
-        self._tokens: Dict[str, Tuple[Search, Any]] = {}
+        self._tokens: Dict[str, Tuple[Search, Any, float]] = {}
 
     def take_capabilities(self, capabilities: Params) -> None:
         """Whether the editor shows progress."""
@@ -179,7 +180,7 @@ class Progress:
         """A search has begun, for a request."""
         self._count += 1
         token = "holls/search/%d" % self._count
-        self._tokens[token] = search, number
+        self._tokens[token] = search, number, time.monotonic()
         if self._is_shown:
             self._bridge.send({"id": token, "method": "window/workDoneProgress/create", "params": {"token": token}})
             self._say(token, {"kind": "begin", "title": "Finding a proof", "cancellable": True})
@@ -187,9 +188,9 @@ class Progress:
     def take(self, event: object) -> None:
         """What a search tries, or that it has ended."""
         search = event.search if isinstance(event, Tried) else event
-        for token in [token for token, (other, _) in self._tokens.items() if other is search]:
+        for token, begun in [(token, begun) for token, (other, _, begun) in self._tokens.items() if other is search]:
             if isinstance(event, Tried):
-                self._say(token, {"kind": "report", "message": event.name})
+                self._say(token, {"kind": "report", "message": "%s (%.1f s)" % (event.name, time.monotonic() - begun)})
             else:
                 self._say(token, {"kind": "end"})
                 del self._tokens[token]
@@ -206,7 +207,7 @@ class Progress:
 
     def cancel_request(self, number: Any) -> None:
         """The editor wants the answer to a request no more."""
-        for search, own in self._tokens.values():
+        for search, own, _ in self._tokens.values():
             search.is_cancelled = search.is_cancelled or own == number
 
 

@@ -25,7 +25,7 @@ class Place:
         terms = list(self.shown.assumptions) + [self.shown.conclusion]
         self.terms = terms
         self.items = [Item(True, term, False) for term in terms[:-1]] + [Item(False, terms[-1], True)]
-        self.is_growing = any(trying.grows(term) for term in terms)
+        self.is_growing = any(trying.grows(term) for term in terms) or trying.grow_together(terms)
 
     @property
     def count(self) -> int:

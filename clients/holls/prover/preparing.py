@@ -23,12 +23,12 @@ def preparations(shown: Shown, knowledge: Knowledge, named: Sequence[str] = ()) 
     found: List[str] = []
     sets, unfolded = knowledge.membership(terms), knowledge.unfolded(terms)
     functions = list(knowledge.functions) if equates_functions(terms) and not sets else []
-    if "ETA_AX" in knowledge.scope.theorems and any(_is_expanded(part) for term in terms for part in typed.subterms(term)):
-        found.append("%sREWRITE_TAC [ETA_AX]" % moved)
     for rules in (sets, [name for name in unfolded if name not in sets] + sets, functions + unfolded):
         rules = list(dict.fromkeys(list(named) + rules))
         if rules:
             found.append("%sREWRITE_TAC [%s] THEN BETA_TAC" % (moved, "; ".join(rules)))
+    if "ETA_AX" in knowledge.scope.theorems and any(_is_expanded(part) for term in terms for part in typed.subterms(term)):
+        found.append("%sREWRITE_TAC [ETA_AX]" % moved)
     return list(dict.fromkeys(found))
 
 

@@ -3,7 +3,7 @@
 from __future__ import annotations
 
 import re
-from typing import List, Optional, Sequence, Tuple
+from typing import Dict, Iterable, List, Mapping, Optional, Sequence, Set, Tuple
 
 from holls.protocol import Goals
 from holls.prover import clock, typed
@@ -20,6 +20,8 @@ SHORT = "ASM_REWRITE_TAC []"
 """Steps that are no longer aren't made fewer."""
 STRIPS = "REPEAT STRIP_TAC THEN "
 """What a step that may close a goal begins with."""
+
+_Begun = Tuple[Term, int]
 
 
 def closers(theorems: Sequence[str], is_growing: bool) -> List[str]:
@@ -45,7 +47,30 @@ def grows(term: Term) -> bool:
     return False
 
 
-def _beginning(term: Term) -> Tuple[Term, int]:
+def grow_together(terms: Sequence[Term]) -> bool:
+    """Whether equations in some formulas may be rules that go on for ever by way of one another, as `s x <=> t x` and `t x <=> ~s x`, and make larger terms."""
+    rules: Dict[_Begun, List[Tuple[Set[_Begun], bool]]] = {}
+    for sides in (typed.binary(part) for term in terms for part in typed.subterms(term)):
+        if sides and sides[0] in ("=", "<=>"):
+            begun = {_beginning(inner) for inner in typed.subterms(sides[2])}
+            rules.setdefault(_beginning(sides[1]), []).append((begun, typed.size(sides[2]) > typed.size(sides[1])))
+    after = {begun: set().union(*(right for right, _ in some)) & rules.keys() for begun, some in rules.items()}
+    return any(is_larger and begun in _reached(right & rules.keys(), after) for begun, some in rules.items() for right, is_larger in some)
+
+
+def _reached(begun: Iterable[_Begun], after: Mapping[_Begun, Iterable[_Begun]]) -> Set[_Begun]:
+    """What is reached from some symbols."""
+    found: Set[_Begun] = set()
+    waiting = list(begun)
+    while waiting:
+        one = waiting.pop()
+        if one not in found:
+            found.add(one)
+            waiting += after[one]
+    return found
+
+
+def _beginning(term: Term) -> _Begun:
     """What a term begins with, and the number of its arguments."""
     number = 0
     while term[0] == "a":

@@ -174,11 +174,22 @@ function M.search(query, conclusion)
   end, 0)
 end
 
+local searching -- The token of the search that is under way.
+
+-- Ends a search of a proof.
+function M.cancel()
+  local client = searching and (vim.lsp.get_clients or vim.lsp.get_active_clients)({ name = 'holls' })[1]
+  if client then
+    client.rpc.notify('window/workDoneProgress/cancel', { token = searching })
+  end
+end
+
 -- Says below the windows what a search of a proof tries, which may take some seconds: Neovim itself shows no progress.
 local function show_progress(failure, result, context, more)
   vim.lsp.handlers['$/progress'](failure, result, context, more)
   local value = result.value or {}
   if tostring(result.token):match('^holls/search/') then
+    searching = value.kind ~= 'end' and result.token or nil
     local text = value.kind == 'end' and '' or 'Finding a proof: ' .. (value.message or '..')
     vim.api.nvim_echo({ { text:sub(1, vim.o.columns - 15) } }, false, {})
   end
@@ -231,6 +242,7 @@ local function keys()
   map('gr', vim.lsp.buf.references, 'where the name is used')
   map('<LocalLeader>r', vim.lsp.buf.rename, 'another name for what is made, wherever it is used')
   map('<LocalLeader>a', vim.lsp.buf.code_action, 'what could be done about the error')
+  map('<LocalLeader>c', M.cancel, 'ends the search of a proof')
   map('<LocalLeader>w', vim.lsp.buf.workspace_symbol, 'a name of the project')
   vim.keymap.set('i', '<C-s>', vim.lsp.buf.signature_help, { buffer = true, silent = true, desc = 'arguments of the tactic' })
   map('<LocalLeader>d', vim.diagnostic.open_float, 'the error in full')
