@@ -127,7 +127,7 @@ class OverTheLibrary(unittest.TestCase):
             self.assertTrue(self.library.prove(prover_goals.Stated("", [], text), False, 30.0).steps, text)
 
     def test_each_part_of_a_conjunction_goes_its_own_way(self):
-        goal = prover_goals.Stated("", [], "!l m:A list. LENGTH (APPEND l m) = add (LENGTH l) (LENGTH m) /\\ (IN (x:B) s ==> UNION (INSERT x EMPTY) s = s)")
+        goal = prover_goals.Stated("", [], "!l m:A list. LENGTH (APPEND l m) = add (LENGTH l) (LENGTH m) /\\ (le (mult a b) c ==> lt (mult a b) (SUC c))")
         found = self.library.prove(goal, False, 8.0)
         self.assertTrue(found.steps)
         self.assertIn("CONJ_TAC", found.steps[0])
