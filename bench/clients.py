@@ -36,7 +36,7 @@ ROOT = pathlib.Path(__file__).resolve().parents[1]
 CLIENTS = ROOT / "clients"
 THEORIES = ROOT / "theories"
 sys.path.insert(0, str(CLIENTS))
-from holls import graph, protocol  # noqa: E402 (clients/holls)
+from holls import circles, graph, protocol  # noqa: E402 (clients/holls)
 from holls.files import File  # noqa: E402 (clients/holls)
 from holls.sent import Notation  # noqa: E402, F401 (clients/holls): loaded before anything is measured
 from holls.view import View  # noqa: E402 (clients/holls)
@@ -84,6 +84,7 @@ def step(text, share):
 # Notation
 
 def notation(_):
+    circles.look_seldom()  # As the checker and the bridge do.
     begun = time.process_time()
     found = library()
     read = time.process_time()

@@ -3,14 +3,13 @@
 from __future__ import annotations
 
 import argparse
-import gc
 import json
 import os
 import sys
 import time
 from typing import Callable, Dict, List, Sequence, Union
 
-from holls import checking, disk, farm, files, graph, server, words
+from holls import checking, circles, disk, farm, files, graph, server, words
 from holls.checking import Basis, Unit
 from holls.files import File
 from holls.found import Finding, Severity
@@ -21,8 +20,6 @@ from holls.say import complain, say
 
 FAILED, BROKEN = 1, 2
 PROGRESS_SECONDS = 0.2
-SELDOM = 50_000, 20, 50
-"""So seldom what is out of use in circles is looked for: nearly all that is made stays until the end."""
 AXIOM = "axiom:"
 
 
@@ -49,7 +46,7 @@ def add_words(parser: argparse.ArgumentParser) -> None:
 
 def main(given: argparse.Namespace) -> int:
     """Checks the files: 0 where all commands are accepted and no proof is open, 1 where not, 2 where nothing can be checked."""
-    gc.set_threshold(*SELDOM)
+    circles.look_seldom()
     try:
         program = server.find(given.server)
         memory = farm.Memory(given, program)

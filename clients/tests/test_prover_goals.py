@@ -15,6 +15,8 @@ from tests.helpers import BUILT
 
 SAMPLED = 4
 """Each so many-th goal of a kind is searched."""
+SECONDS = 2.5
+"""So long a search may take here, half of what it gets elsewhere: what is found is found soon, and what isn't costs all of it."""
 MIDDLE, LATE = 0.75, 1.5
 """Half of what is found is found in this part of the time that a search may take, and nearly all of it, with its `qed`, in that, whatever else the machine does.
 (prover_goals.py has narrower bounds.)"""
@@ -117,7 +119,7 @@ class OverTheLibrary(unittest.TestCase):
         """The steps for a goal, which the program has accepted."""
         return self.library.prove(prover_goals.Stated("", [], text), False, seconds)
 
-    def searched(self, kind, is_named=False, seconds=5.0):
+    def searched(self, kind, is_named=False, seconds=SECONDS):
         """That of a sample of a kind's goals the share is found that is wanted, half of it soon. (prover_goals.py searches them all.)"""
         share = next(one for one in prover_goals.SHARES if (one.kind, one.is_named) == (kind, is_named))
         goals = [goal for goal in prover_goals.stored([kind])[::SAMPLED] if not is_named or self.library.has_named(goal)]

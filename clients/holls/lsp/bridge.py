@@ -11,7 +11,7 @@ import time
 from dataclasses import dataclass
 from typing import Any, BinaryIO, Callable, Dict, FrozenSet, Iterator, List, NoReturn, Optional, Sequence, Tuple, Union
 
-from holls import server
+from holls import circles, server
 from holls.files import File
 from holls.lsp import wire
 from holls.lsp.answers import Answered, Answers, BadParams
@@ -483,6 +483,7 @@ def main(given: argparse.Namespace) -> NoReturn:
 
 def serve(stream: BinaryIO, bridge: Bridge) -> NoReturn:
     """Serves the editor whose messages a stream has, and ends the process."""
+    circles.look_seldom()
     threading.Thread(target=_serve, args=(bridge, stream), daemon=True).start()
     status = 1
     try:

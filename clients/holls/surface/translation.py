@@ -149,8 +149,27 @@ def _writer(text: str, base: int, table: Table, vocabulary: Vocabulary, is_defin
         return None
 
 
-def _sent(text: str, base: int, table: Table, vocabulary: Vocabulary, is_defining: bool) -> Optional[str]:
-    """A quotation as it is sent; None where that is as it is written. Raises `Misread` where it is in notation and can't be read."""
+def _sent(text: str, base: int, table: Table, vocabulary: Asked, is_defining: bool) -> Optional[str]:
+    """A quotation as it is sent; None where that is as it is written. Raises `Misread` where it is in notation and can't be read.
+
+    It is kept where it says the same whatever stands: many quotations stand in a file again and again.
+    """
+    if is_defining:
+        return _sent_anew(text, base, table, vocabulary, True)
+    kept: Dict[str, Optional[str]] = table.memory.setdefault("quotations", {})
+    if text in kept:
+        return kept[text]
+    before = vocabulary.number
+    found = _sent_anew(text, base, table, vocabulary, False)
+    if vocabulary.number == before:
+        if len(kept) >= _MOST_KEPT:
+            kept.clear()
+        kept[text] = found
+    return found
+
+
+def _sent_anew(text: str, base: int, table: Table, vocabulary: Vocabulary, is_defining: bool) -> Optional[str]:
+    """A quotation as it is sent, read."""
     is_certain = bool(table.notation.search(text))
     if not is_certain and not PERHAPS.search(text):
         return None

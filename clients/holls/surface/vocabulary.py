@@ -33,17 +33,21 @@ class Vocabulary:
 
 
 class Asked(Vocabulary):
-    """A vocabulary that keeps what it was asked, with its answers: what was read by it holds wherever the answers are the same."""
+    """A vocabulary that keeps what it was asked, with its answers: what was read by it holds wherever the answers are the same. `number` is how often it
+    was asked: what was read between two equal numbers holds everywhere."""
 
     def __init__(self, over: Vocabulary) -> None:  # The names stand in `over`, so that nothing else is made.
         self.over = over
         self.answers: Dict[Tuple[str, str], Optional[bool]] = {}
+        self.number = 0
 
     def takes_arguments(self, name: str) -> Optional[bool]:
+        self.number += 1
         found = self.answers[("type", name)] = self.over.takes_arguments(name)
         return found
 
     def is_constant(self, name: str) -> bool:
+        self.number += 1
         found = self.answers[("constant", name)] = self.over.is_constant(name)
         return found
 
