@@ -8,7 +8,9 @@ import tempfile
 import time
 import unittest
 
+from holls.lsp import features
 from holls.lsp.bridge import Bridge, Limits
+from holls.server import Ended, Lines
 from tests.helpers import BUILT, fake
 
 TEXTS = {
@@ -55,11 +57,14 @@ class Walk:
         while not is_reached() and time.monotonic() < end:
             patience = self.bridge._patience()
             try:
-                self.bridge._take_all(self.bridge.events.get(timeout=min(0.2, 0.2 if patience is None else patience)))
+                self.take(self.bridge.events.get(timeout=min(0.2, 0.2 if patience is None else patience)))
             except queue.Empty:
                 pass
             self.bridge._settle()
             self.look()
+
+    def take(self, event):
+        self.bridge._take_all(event)
 
     def look(self):
         """Compares what is published with what was, since the last edit."""
@@ -111,22 +116,59 @@ class Walk:
         return self.bridge.events.empty() and all(self.bridge.publisher._is_done(document) and document.due is None for document in documents)
 
 
+class EachReply(Walk):
+    """The same, where the program's replies are taken one by one, and behind each it is seen what would be published then of the file that was edited last,
+    whether or not it is due. (Of one that imports it, replies may come that were asked for before: what is published of these Walk sees.)"""
+
+    def __init__(self, *given):
+        self.known, self.new = {}, {}  # What there was to say of each file last, and what of it has come since the last edit.
+        self.number, self.did = 0, ("",)
+        super().__init__(*given)
+
+    def take(self, event):
+        for one in [Lines(event.server, [line]) for line in event.lines] if isinstance(event, Lines) else [event]:
+            if isinstance(one, (Lines, Ended)):
+                self.bridge._hear([one])
+            else:
+                self.bridge._take(one)
+            self.bridge._settle()
+            self.look()
+
+    def tell(self, method, **params):
+        self.new = {}
+        super().tell(method, **params)
+
+    def look(self):
+        super().look()
+        for uri, document in self.bridge.workspace.documents.items():
+            if document.version == self.versions.get(uri) and pathlib.PurePosixPath(uri).stem == self.did[0]:
+                now = {json.dumps(one, sort_keys=True) for one in features.diagnostics(document.file)}
+                self.gone += [(self.did, one) for one in self.new.get(uri, ()) if one not in now]
+                self.new[uri] = self.new.get(uri, set()) & now | now - self.known.get(uri, set())
+                self.known[uri], self.number = now, self.number + 1
+
+
 class Walking(unittest.TestCase):
-    def walk(self, program, seed, steps):
+    def walk(self, program, seed, steps, kind=Walk):
         with tempfile.TemporaryDirectory() as folder:
-            walk = Walk(program, pathlib.Path(folder), random.Random(seed))
+            walk = kind(program, pathlib.Path(folder), random.Random(seed))
             try:
                 for _ in range(steps):
                     walk.act()
             finally:
                 walk.bridge.end_programs()
         self.assertEqual(walk.gone, [], seed)
-        self.assertGreater(walk.published, steps)
+        self.assertGreater(walk.published, steps // 2)
+        return walk
 
     @unittest.skipUnless(BUILT.is_file(), "hol_serve isn't built")
     def test_nothing_that_is_published_goes_away_by_itself(self):
         for seed in range(2):
             self.walk(str(BUILT), seed, 50)
+
+    @unittest.skipUnless(BUILT.is_file(), "hol_serve isn't built")
+    def test_nothing_that_could_be_published_behind_a_reply_goes_away_by_itself(self):
+        self.assertGreater(sum(self.walk(str(BUILT), seed, 12, EachReply).number for seed in range(100, 104)), 300)
 
     def test_nor_where_the_program_ends_now_and_then(self):
         with tempfile.TemporaryDirectory() as folder:
