@@ -49,7 +49,7 @@ use Rattle.hol_theory.proofs.Standing.{entry_within}
 use Rattle.hol_exec.specs.declared.reports.refusal.RefusalKind.{RefusalKind}
 use Rattle.hol_exec.specs.declared.reports.refusal.RefusalKind.TheVariants as refusal
 use Rattle.hol_exec.specs.Setup.{SetupValue}
-use Rattle.hol_notation_commands.specs.Reading.{ReadText, Reads, Breaks}
+use Rattle.hol_notation_reader.specs.Reading.{ReadText, Reads, Breaks}
 use Rattle.hol_exec.specs.Keys.{keys_of_type, keys_of_term, keys_in, keys_of_definition, made_by_making}
 use Rattle.hol_exec.specs.StateValue.{ProofValue, StateValue, EndedTheory, AreTheories}
 use Rattle.hol_exec.specs.ReadsValue.{ReadsValue, ClosingValue, values_of, reads_of, closing_of, AreReads}

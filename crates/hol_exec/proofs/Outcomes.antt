@@ -17,7 +17,7 @@ use Rattle.hol_theory.specs.Entry.{Entries, EntryValue}
 use Rattle.hol_theory.specs.Key.{KeyValue}
 use Rattle.hol_exec.specs.Setup.{SetupValue}
 use Rattle.hol_notation_commands.specs.Text.{MakingText, NewType, NewConstant, NewAxiom, NewDefinition, NewBasicTypeDefinition, LocalText, Goal, Apply, Qed, DefineTac, Make, DirectText, Back, Rotate, Oops, Import, Local, Direct, TypeDefinitionText}
-use Rattle.hol_notation_commands.specs.Reading.{ReadText, Reads, Breaks}
+use Rattle.hol_notation_reader.specs.Reading.{ReadText, Reads, Breaks}
 use Rattle.hol_resolve.specs.Reading.{ReadingValue, WrongArity, NoTyping, LargeReading, ReadsAs, type_reading}
 use Rattle.hol_exec.specs.StateValue.{ProofValue, StateValue, EndedTheory}
 use Rattle.hol_exec.specs.ReadsValue.{ReadsValue, ClosingValue, reads_of, AreReads, first_goal}

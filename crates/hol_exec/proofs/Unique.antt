@@ -4,8 +4,8 @@ use Rattle.std.proofs.Common.{ap, sym, ◌∙◌}
 use Rattle.hol_notation_terms.specs.Text.{QuotationText}
 use Rattle.hol_notation_tactics.specs.Parts.{parts_of}
 use Rattle.hol_notation_tactics.specs.Text.{TacText}
-use Rattle.hol_notation_commands.specs.Reading.{Reads, Breaks, ReadText, IsRead}
-use Rattle.hol_notation_commands.proofs.OneReading.{one_reading as one_command}
+use Rattle.hol_notation_reader.specs.Reading.{Reads, Breaks, ReadText, IsRead}
+use Rattle.hol_notation_reader.proofs.OneReading.{one_reading as one_command}
 use Rattle.hol_exec.specs.Setup.{SetupValue}
 use Rattle.hol_notation_commands.specs.Text.{LocalText, Goal, Apply, Qed, DefineTac, Make, Local, Direct}
 use Rattle.hol_resolve.specs.Signature.{SignatureValue}

@@ -8,7 +8,7 @@ use Rattle.hol_theory.specs.Key.{KeyValue, key_text}
 use Rattle.hol_exec.specs.declared.reports.refusal.RefusalKind.TheVariants as refusal
 use Rattle.hol_exec.specs.Setup.{SetupValue}
 use Rattle.hol_notation_commands.specs.Text.{DirectText, Back, Rotate, Oops, Import, Local, Direct}
-use Rattle.hol_notation_commands.specs.Reading.{ReadText, Reads, Breaks}
+use Rattle.hol_notation_reader.specs.Reading.{ReadText, Reads, Breaks}
 use Rattle.hol_exec.specs.StateValue.{ProofValue, StateValue, EndedTheory, AreTheories}
 use Rattle.hol_exec.specs.ReadsValue.{ReadsValue, AreReads}
 use Rattle.hol_exec.specs.OutcomeValue.{OutcomeValue, Undoes, Rotates, Makes, Refuses}

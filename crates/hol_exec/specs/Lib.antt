@@ -1,7 +1,7 @@
 pub use Rattle.hol_notation_commands.specs.Text as CommandText
 pub use Rattle.hol_notation_commands.specs.Code as CommandCode
 pub use Rattle.hol_notation_commands.specs.CommandView
-pub use Rattle.hol_notation_commands.specs.Reading
+pub use Rattle.hol_notation_reader.specs.Reading
 pub use Rattle.hol_print.specs.ShowGoal
 pub mod Occurring
 pub mod Setup

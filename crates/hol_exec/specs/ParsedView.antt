@@ -1,5 +1,5 @@
 -- What the code's texts read as.
-use Rattle.hol_notation_commands.specs.Reading.{ReadText, Reads, Breaks}
+use Rattle.hol_notation_reader.specs.Reading.{ReadText, Reads, Breaks}
 use Rattle.hol_exec.specs.declared.reading.parsed.Parsed.{Parsed}
 use Rattle.hol_exec.specs.declared.reading.parsed.Parsed.TheVariants as code
 

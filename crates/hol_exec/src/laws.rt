@@ -3,7 +3,7 @@ ghost use Rattle.std.specs.Prelude.{◌≡◌, ℕ, true, List, Option};
 ghost use Rattle.std.specs.List.{list_all};
 ghost use Rattle.hol_exec.specs.Setup.{SetupValue};
 ghost use Rattle.hol_notation_commands.specs.Text.{LocalText};
-ghost use Rattle.hol_notation_commands.specs.Reading.{ReadText};
+ghost use Rattle.hol_notation_reader.specs.Reading.{ReadText};
 ghost use Rattle.hol_notation_tactics.specs.Parts.{parts_of_theorem};
 ghost use Rattle.hol_notation_tactics.specs.Text.{ThmText};
 ghost use Rattle.hol_resolve.specs.Quotations.{quotations_in};

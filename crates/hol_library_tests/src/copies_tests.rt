@@ -7,7 +7,8 @@ use hol_combine::{Expr, ExprNode};
 use hol_formulas::{bool_type, occurrence, variable};
 use hol_goal::TacArgs;
 use hol_match::term_match;
-use hol_notation_tactics::{TacArg, TacArgNode, ThmExpr, ThmExprNode, read_theorem};
+use hol_notation_reader::read_theorem;
+use hol_notation_tactics::{TacArg, TacArgNode, ThmExpr, ThmExprNode};
 use hol_notation_tokens::scan;
 use hol_terms::Term;
 use std::alloc::{AllocError, Global};
@@ -79,7 +80,7 @@ fn is_of_copied_pair(theorem: &ThmExpr) -> Result<bool, Fail> {
 
 fn is_pair_copied(alloc: Global) -> Result<bool, Fail> {
     let (words, end) = scan(alloc, "INST_TYPE [`:A`, `:B`] N")?;
-    let (theorem, _rest) = read_theorem(alloc, &words, end)?;
+    let theorem = read_theorem(alloc, &words, end)?;
     is_of_copied_pair(&theorem)
 }
 

@@ -1,7 +1,8 @@
 //! Terms for tests, as they are written.
 use hol_infer::elaborate;
 use hol_kernel::{prelude_constants, prelude_types};
-use hol_notation_terms::{PreTerm, read_term};
+use hol_notation_reader::read_term;
+use hol_notation_terms::PreTerm;
 use hol_notation_tokens::scan;
 use hol_terms::Term;
 use hol_types::{Name, Ty};
@@ -30,8 +31,7 @@ impl Written {
 
     fn read(&self, text: &str) -> Result<PreTerm, Fail> {
         let (words, end) = scan(self.alloc, text)?;
-        let (term, _rest) = read_term(self.alloc, &words, end)?;
-        Ok(term)
+        Ok(read_term(self.alloc, &words, end)?)
     }
 
     /// The term that is written so.

@@ -15,5 +15,5 @@ pub use Rattle.hol_notation_tactics.specs.ArgumentView
 pub use Rattle.hol_notation_commands.specs.Text as CommandText
 pub use Rattle.hol_notation_commands.specs.Code as CommandCode
 pub use Rattle.hol_notation_commands.specs.CommandView
-pub use Rattle.hol_notation_commands.specs.Reading
-pub use Rattle.hol_notation_commands.specs.Errors
+pub use Rattle.hol_notation_reader.specs.Reading
+pub use Rattle.hol_notation_reader.specs.Errors

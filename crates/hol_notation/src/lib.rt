@@ -3,8 +3,9 @@
 #![tactic(auto)]
 
 pub use hol_notation_commands::{
-    Command, CommandNode, DirectCommand, LocalCommand, Making, TypeDefinition, read_command,
+    Command, CommandNode, DirectCommand, LocalCommand, Making, TypeDefinition,
 };
+pub use hol_notation_reader::read_command;
 pub use hol_notation_tactics::{
     CitedName, Part, Role, TacArg, TacArgNode, TacCall, TacExpr, TacExprNode, ThmExpr, ThmExprNode,
     TypePair, calls_in, parts_of,

@@ -1,12 +1,5 @@
-pub use Rattle.hol_notation_tokens.specs.Token
-pub use Rattle.hol_notation_tokens.specs.Lexeme
 pub mod Text
 pub mod Code
 pub mod TypeDefinitionView
 pub mod CommandView
-pub mod Grammar
-pub mod Value
-pub mod Reading
-pub mod Errors
-pub mod Words
 pub mod Equal

@@ -12,7 +12,7 @@ use std::marker::Model;
 /// A command.
 #[derive(Drop)]
 pub struct Command {
-    pub(crate) node: CommandNode,
+    node: CommandNode,
 }
 
 /// What a command is.
@@ -111,6 +111,13 @@ impl Model for Command {
 }
 
 impl Command {
+    /// The command that is this.
+    pub fn new(node: CommandNode) -> Command
+        ensures { result ≡ command_of_node node }
+    {
+        Command { node }
+    }
+
     /// What it is.
     pub fn node(&self) -> &CommandNode
         ensures { command_of_node result.now ≡ self.now }

@@ -1,4 +1,13 @@
-pub mod Laws
+pub mod Digits
+pub mod Names
+pub mod Marks
+pub mod Trees
+pub mod Leads
+pub mod Endings
+pub mod Checks
+pub mod Certain
+pub mod Begins
+pub mod Paths
 pub mod Steps
-pub mod Raising
-pub mod Walk
+pub mod Words
+pub mod Same

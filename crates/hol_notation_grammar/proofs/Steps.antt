@@ -1,228 +1,198 @@
--- How a part that is stuck makes the whole stuck.
-use Rattle.std.proofs.Common.{◌≡◌, ◌⊎◌, inl, inr, ℕ, List, [], ◌∷◌, ◌++◌, refl, ap, ◌∙◌, sym, subst, Some, None, append_assoc}
-use Rattle.hol_notation_tokens.specs.declared.error.SyntaxError.{SyntaxError}
-use Rattle.hol_notation_tokens.specs.declared.error.SyntaxError.TheVariants.{Memory, Syntax}
+-- From the code's steps to those of the path.
+use Rattle.std.proofs.Common.{◌≡◌, ◌-◌, Bool, true, false, ℕ, zero, suc, List, [], ◌∷◌, ◌++◌, refl, ap, ◌∙◌, sym, subst, reverse, arith, append_assoc, Option, Some, None, Result, Ok, Err, IfOk}
+use Rattle.std.proofs.lemmas.Bool.{false≢true}
+use Rattle.std.proofs.lemmas.List.{reverse-append}
+use Rattle.hol_notation_grammar.specs.declared.sort.Sort.{Sort}
 use Rattle.hol_notation_tokens.specs.Lexeme.{Lexeme}
 use Rattle.hol_notation_tokens.proofs.Tokens.{some_same, none_not_some}
-use Rattle.hol_notation_grammar.specs.Terminal.{Terminal, Is, IsNotNext, SameNext, place_at}
-use Rattle.hol_notation_grammar.specs.Syntax.{Grammar, Parts, nothing, token, part, Tree, node, Trees, leaf, tree, then, all_then, WhereNothing, Stands, AllStand}
-use Rattle.hol_notation_grammar.specs.Reading.{Begins, Stuck, Fails, IsMissing}
-use Rattle.hol_notation_grammar.proofs.Laws.{Certain, next_same, not_next, first_same, then_append, stands_next, closed_stands, same}
+use Rattle.hol_notation_grammar.specs.declared.grammar.Rule.{Rule}
+use Rattle.hol_notation_grammar.specs.declared.grammar.Class.{Class}
+use Rattle.hol_notation_grammar.specs.declared.grammar.Production.{Production}
+use Rattle.hol_notation_grammar.specs.declared.grammar.Symbol.{Symbol}
+use Rattle.hol_notation_grammar.specs.declared.grammar.Symbol.TheVariants.{Token, Part}
+use Rattle.hol_notation_grammar.specs.declared.machine.Step.{Step}
+use Rattle.hol_notation_grammar.specs.declared.machine.Step.TheVariants.{Choose, Take}
+use Rattle.hol_notation_grammar.specs.Sort.{sort_of}
+use Rattle.hol_notation_grammar.specs.Step.{step_text, step_texts}
+use Rattle.hol_notation_grammar.specs.Table.{has, binds, productions, symbols}
+use Rattle.hol_notation_grammar.specs.Grammar.{Grammar, language, leads, some_leads, begins, opens, IsAmong, StepText, choose, take, named, add_if, AreNew, Tree, Stands, then, all_steps}
+use Rattle.hol_notation_grammar.specs.Reading.{IsText, IsNext, Stops}
+use Rattle.hol_notation_grammar.specs.Path.{Path, Any, sort_next, IsOmitted, IsNeeded, Keeps, Omits, TakesFirst, Takes, Halts, Accepts, Notes, IsReadTo, GoesOn, Closes}
+use Rattle.hol_notation_grammar.proofs.Leads.{Certain, leading, some_elim, some_intro, leads_wider, opens_wider, leads_less}
+use Rattle.hol_notation_grammar.proofs.Certain.{certain}
+use Rattle.hol_notation_grammar.proofs.Paths.{path_narrow, path_take, path_stuck, path_over, path_end, path_omit, path_descend}
+use Rattle.std.specs.Prelude.{map}
+use Rattle.std.proofs.lemmas.List.{append-nil, map-append}
+use Rattle.hol_notation_grammar.proofs.Names.{named_join, new_front, new_back, new_join}
 
--- the parts that end a production of a nonterminal, in the place of one
-pub record BeginsAll (G : Grammar) (ps : Parts G.Nonterminal) (front after : List Lexeme) : Type 0 where
-  pub written : Trees G ps
-  pub more : List Lexeme
-  pub whole : all_then written after ≡ front ++ more
-  pub stands : AllStand written after
+pub ok_map : {A E : Type 0} (P Q : Type 0) (r : Result A E) → (P → Q) → IfOk r (λ _. P) → IfOk r (λ _. Q)
+ok_map P Q (Ok x) f h = f h
+ok_map P Q (Err e) f h = h
 
-pub record StuckAll (G : Grammar) (n : G.Nonterminal) (ps : Parts G.Nonterminal) (end : ℕ) (lexemes : List Lexeme) (place : ℕ) : Type 0 where
-  pub front : List Lexeme
-  pub rest : List Lexeme
-  pub whole : lexemes ≡ front ++ rest
-  pub here : place ≡ place_at end rest
-  pub begins : (after : List Lexeme) → G.Closes n after → BeginsAll G ps front after
-  pub stops : (ts : Trees G ps) (after more : List Lexeme) → AllStand ts after → SameNext more rest → front ++ more ≡ all_then ts after → ⊥
+pub ok_each : {A E : Type 0} (P Q : A → Type 0) (r : Result A E) → ((x : A) → P x → Q x) → IfOk r P → IfOk r Q
+ok_each P Q (Ok x) f h = f x h
+ok_each P Q (Err e) f h = h
 
-abbrev pub FailsAll : (G : Grammar) → G.Nonterminal → Parts G.Nonterminal → ℕ → List Lexeme → SyntaxError → Type 0
-FailsAll G n ps end lexemes Memory = Unit {0}
-FailsAll G n ps end lexemes (Syntax place) = StuckAll G n ps end lexemes place
+-- the list with its last element on top
+pub popped : (xs ys : List Symbol) (s : Symbol) → xs ≡ ys ++ s ∷ [] → reverse xs ≡ s ∷ reverse ys
+popped xs ys s e = ap (λ (l : List Symbol). reverse l) e ∙ reverse-append ys (s ∷ [])
 
--- some way to write these parts
-pub record Filled (G : Grammar) (ps : Parts G.Nonterminal) (after : List Lexeme) : Type 0 where
-  pub written : Trees G ps
-  pub stands : AllStand written after
+-- something leads where a rule is begun
+some_of : (depth : ℕ) (n : Rule) (k : Sort) → begins language depth n k ≡ true → some_leads (λ m j. opens language m j) (λ p. symbols p) (productions n) k ≡ true
+some_of zero n k e = absurd (false≢true e)
+some_of (suc depth) n k e =
+    let r = some_elim (λ m j. begins language depth m j) (λ p. symbols p) (productions n) k e in
+    some_intro (λ m j. opens language m j) (λ p. symbols p) (productions n) r.production k r.among
+    (leads_wider (λ m j. begins language depth m j) (λ m j. opens language m j) (symbols r.production) k (λ m f. opens_wider language certain depth m k f) r.leads)
 
-abbrev pub Fills : (G : Grammar) → G.Nonterminal → Parts G.Nonterminal → Type 0
-Fills G n ps = (after : List Lexeme) → G.Closes n after → Filled G ps after
+pub part_begun : (depth : ℕ) (top : Symbol) (n : Rule) (k : Sort) → top ≡ Part n → leads (λ m j. begins language depth m j) (top ∷ []) k ≡ true → begins language depth n k ≡ true
+part_begun depth top n k e h = subst (λ (s : Symbol). leads (λ m j. begins language depth m j) (s ∷ []) k ≡ true) e h
 
--- what is written of a nonterminal ends, whatever comes after it
-abbrev pub IsEnded : (G : Grammar) → G.Nonterminal → Type 0
-IsEnded G m = (t : Tree G m) (u w : List Lexeme) → Stands t u → Stands t w
+pub none_leads : (depth : ℕ) (top : Symbol) (n : Rule) (k : Sort) (ps : List Production) → top ≡ Part n → leads (λ m j. begins language depth m j) (top ∷ []) k ≡ true → ps ≡ productions n
+    → some_leads (λ m j. opens language m j) (λ p. symbols p) ps k ≡ false → ⊥
+none_leads depth top n k ps e h w f =
+    false≢true (sym f ∙ ap (λ (l : List Production). some_leads (λ m j. opens language m j) (λ p. symbols p) l k) w ∙ some_of depth n k (part_begun depth top n k e h))
 
--- before these lexemes a nonterminal may end: they close it, or it ends by itself
-abbrev pub Ready : (G : Grammar) → G.Nonterminal → List Lexeme → Type 0
-Ready G m u = G.Closes m u ⊎ (G.Closes m [] × IsEnded G m)
+leads_top : (b : Rule → Sort → Bool) (ss rest below : List Symbol) (first : Symbol) (k : Sort) → ss ++ rest ≡ first ∷ below → leads b ss k ≡ true → leads b (first ∷ []) k ≡ true
+leads_top b [] rest below first k e h = absurd (false≢true h)
+leads_top b (s ∷ ss) rest below first k e h = let same : s ≡ first = cc in subst (λ (z : Symbol). leads b (z ∷ []) k ≡ true) same (one s h)
+  where
+    one : (s : Symbol) → leads b (s ∷ ss) k ≡ true → leads b (s ∷ []) k ≡ true
+    one (Token c) h = h
+    one (Part m) h = h
 
--- some way to write these parts, before which a nonterminal may end
-pub record Completion (G : Grammar) (m : G.Nonterminal) (ps : Parts G.Nonterminal) (after : List Lexeme) : Type 0 where
-  pub written : Trees G ps
-  pub stands : AllStand written after
-  pub ready : Ready G m (all_then written after)
+pub depth_left : (depth : ℕ) (n : Rule) (k : Sort) → begins language depth n k ≡ true → suc (depth - 1) ≡ depth
+depth_left zero n k e = absurd (false≢true e)
+depth_left (suc depth) n k e = omega arith
 
-abbrev pub Completes : (G : Grammar) → G.Nonterminal → G.Nonterminal → Parts G.Nonterminal → Type 0
-Completes G n m ps = (after : List Lexeme) → G.Closes n after → Completion G m ps after
+pub next_leads : (depth : ℕ) (top : Symbol) (n : Rule) (k : Sort) (p : Production) (ps : List Production) (first : Symbol) (rest below : List Symbol)
+    → top ≡ Part n → leads (λ m j. begins language depth m j) (top ∷ []) k ≡ true → ps ≡ productions n → IsAmong p ps → leads (λ m j. opens language m j) (symbols p) k ≡ true
+    → symbols p ++ rest ≡ first ∷ below → leads (λ m j. begins language (depth - 1) m j) (first ∷ []) k ≡ true
+next_leads depth top n k p ps first rest below e h w a l s =
+    let b = part_begun depth top n k e h in
+    let c : begins language (suc (depth - 1)) n k ≡ true = subst (λ (d : ℕ). begins language d n k ≡ true) (sym (depth_left depth n k b)) b in
+    leads_top (λ m j. begins language (depth - 1) m j) (symbols p) rest below first k s (leads_less language certain (depth - 1) n k p c (subst (IsAmong p) w a) l)
 
--- for one production the next lexeme is enough
-abbrev pub Looks : {G : Grammar} → Certain G → G.Nonterminal → Type 0
-Looks {G} C n = (u w : List Lexeme) → SameNext u w → C.pick n u ≡ C.pick n w
+pub none_below : (top : Symbol) (ss rest : List Symbol) (k : Sort) → leads (λ m j. opens language m j) ss k ≡ true → ss ++ rest ≡ [] → ⊥
+none_below top [] rest k l e = false≢true l
+none_below top (s ∷ ss) rest k l e = cc
 
-where_any : {N A : Type 0} (ps : Parts N) → A → WhereNothing ps A
-where_any nothing a = a
-where_any (token c f) a = tt
-where_any (part n ps) a = tt
+-- one step more
+pub said_more : (xs ys : List Step) (s : Step) → ys ≡ xs ++ s ∷ [] → step_texts ys ≡ step_texts xs ++ step_text s ∷ []
+said_more xs ys s e = ap (λ (l : List Step). step_texts l) e ∙ map-append step_text xs (s ∷ [])
 
--- a production that is picked is stuck where its parts are
-pub fails_node : {G : Grammar} (C : Certain G) (n : G.Nonterminal) (p : G.Production n) (end : ℕ) (words : List Lexeme) (e : SyntaxError)
-    → Looks C n → C.pick n words ≡ Some p → FailsAll G n (G.parts p) end words e → Fails G n end words e
-fails_node C n p end words Memory looks picked h = tt
-fails_node {G} C n p end words (Syntax place) looks picked h = record {
-  front = h.front;
-  rest = h.rest;
-  whole = h.whole;
-  here = h.here;
-  begins = λ after k.
-      let b = h.begins after k in
-      record { written = node p b.written; more = b.more; whole = b.whole; stands = (where_any (G.parts p) (C.shut n after k), b.stands) };
-  stops = λ t after more s next q. stops G C n p words place h.front h.rest h.whole looks picked h.stops t after more s next q;
+-- choosing a production adds no name
+chosen : (events events_ : List StepText) (p : Production) → events_ ≡ events ++ choose p ∷ [] → named events_ ≡ named events
+chosen events events_ p e = ap named e ∙ named_join events (choose p ∷ []) ∙ append-nil (named events)
+
+pub takes_token : (depth : ℕ) (top : Symbol) (c : Class) (k : Sort) (x : Lexeme) (rest : List Symbol) (events events_ : List StepText) → top ≡ Token c → k ≡ sort_of x
+    → leads (λ m j. begins language depth m j) (top ∷ []) k ≡ true → events_ ≡ events ++ take c x ∷ [] → TakesFirst language x c (top ∷ rest) events rest events_
+takes_token depth top c k x rest events events_ e same h w =
+    let is : has c (sort_of x) ≡ true = subst (λ (j : Sort). has c j ≡ true) same (subst (λ (s : Symbol). leads (λ m j. begins language depth m j) (s ∷ []) k ≡ true) e h) in (
+      ap named w ∙ named_join events (take c x ∷ []),
+      λ n front path.
+          subst (λ (l : List StepText). Path language n (front ++ x ∷ []) rest l Any) (sym w)
+          (path_take language n front c rest events x is (subst (λ (s : Symbol). Path language n front (s ∷ rest) events (IsNext (Some x))) e path)),
+    )
+
+pub takes_part : (top : Symbol) (m : Rule) (k : Sort) (x : Lexeme) (c : Class) (p : Production) (ps : List Production) (first : Symbol) (rest below todo_ : List Symbol) (events middle events_ : List StepText)
+    → top ≡ Part m → k ≡ sort_of x → ps ≡ productions m → IsAmong p ps → leads (λ r j. opens language r j) (symbols p) k ≡ true → middle ≡ events ++ choose p ∷ [] → symbols p ++ rest ≡ first ∷ below
+    → TakesFirst language x c (first ∷ below) middle todo_ events_ → TakesFirst language x c (top ∷ rest) events todo_ events_
+takes_part top m k x c p ps first rest below todo_ events middle events_ e same w a l v s t = (
+  t.0 ∙ ap (λ (names : List (List ℕ)). names ++ add_if (binds c) x.text []) (chosen events middle p v),
+  λ n front path.
+      let q = path_descend language certain n front m rest p events x (subst (IsAmong p) w a) (subst (λ (j : Sort). leading language p j ≡ true) same l)
+      (subst (λ (z : Symbol). Path language n front (z ∷ rest) events (IsNext (Some x))) e path) in
+      t.1 n front
+      (subst (λ (ss : List Symbol). Path language n front ss middle (IsNext (Some x))) s (subst (λ (l : List StepText). Path language n front (symbols p ++ rest) l (IsNext (Some x))) (sym v) q)),
+)
+
+-- leaving out
+pub keeps_omitted : (k : Option Sort) (todo rest : List Symbol) (s : Symbol) (start : List Symbol) (begun events events_ : List StepText) (p : Production) → todo ≡ s ∷ rest → IsOmitted language k p s
+    → events_ ≡ events ++ choose p ∷ [] → Keeps language k start begun todo events → Keeps language k start begun rest events_
+keeps_omitted k todo rest s start begun events events_ p e o w h = (
+  chosen events events_ p w ∙ h.0,
+  λ n front next same path.
+      subst (λ (l : List StepText). Path language n front rest l (IsNext next)) (sym w)
+      (path_omit language certain n front s rest p events next (subst (λ (j : Option Sort). IsOmitted language j p s) (sym same) o)
+      (subst (λ (ss : List Symbol). Path language n front ss events (IsNext next)) e (h.1 n front next same path))),
+)
+
+pub keeps_same : (k : Option Sort) (start todo todo_ : List Symbol) (begun events : List StepText) → todo ≡ todo_ → Keeps language k start begun todo events → Keeps language k start begun todo_ events
+keeps_same k start todo todo_ begun events e h = (h.0, λ n front next same path. subst (λ (ss : List Symbol). Path language n front ss events (IsNext next)) e (h.1 n front next same path))
+
+pub keeps_start : (k : Option Sort) (todo : List Symbol) (events : List StepText) → Keeps language k todo events todo events
+keeps_start k todo events = (refl, λ n front next same path. path)
+
+-- what comes next is taken, or no tree goes on with it
+pub accepts_taken : (x : Lexeme) (c : Class) (k : Sort) (todo middle todo_ : List Symbol) (events between events_ : List StepText) → k ≡ sort_of x → Keeps language (Some k) todo events middle between
+    → TakesFirst language x c middle between todo_ events_ → Takes language x c Any todo events todo_ events_
+accepts_taken x c k todo middle todo_ events between events_ same h t = (
+  t.0 ∙ ap (λ (names : List (List ℕ)). names ++ add_if (binds c) x.text []) h.0,
+  λ n front path. t.1 n front (h.1 n front (Some x) (ap (λ (j : Sort). Some j) (sym same)) (path_narrow language n front todo events Any (IsNext (Some x)) (λ more m. tt) path)),
+)
+
+pub accepts_none : (x : Lexeme) (k : Sort) (todo rest todo_ : List Symbol) (events between events_ : List StepText) (s : Symbol) → k ≡ sort_of x → IsNeeded language (Some k) s
+    → Keeps language (Some k) todo events (s ∷ rest) between → leads (λ m j. begins language 12 m j) (s ∷ []) k ≡ false → Accepts language x todo events None todo_ events_
+accepts_none x k todo rest todo_ events between events_ s same needed h f n front path =
+    path_stuck language certain n front s rest between (Some x) (subst (λ (j : Sort). IsNeeded language (Some j) s) same needed)
+    (λ j e. let i : k ≡ j = same ∙ some_same e in subst (λ (z : Sort). leads (λ m j. opens language m j) (s ∷ []) z ≡ false) i f)
+    (h.1 n front (Some x) (ap (λ (j : Sort). Some j) (sym same)) (path_narrow language n front todo events Any (IsNext (Some x)) (λ more m. tt) path))
+
+pub accepts_over : (x : Lexeme) (k : Sort) (todo todo_ : List Symbol) (events between events_ : List StepText) → k ≡ sort_of x → Keeps language (Some k) todo events [] between
+    → Accepts language x todo events None todo_ events_
+accepts_over x k todo todo_ events between events_ same h n front path =
+    path_over language n front between x (h.1 n front (Some x) (ap (λ (j : Sort). Some j) (sym same)) (path_narrow language n front todo events Any (IsNext (Some x)) (λ more m. tt) path))
+
+-- names
+pub goes_on : (x : Lexeme) (c : Class) (todo todo_ : List Symbol) (events events_ : List StepText) (names names_ : List (List ℕ)) → Takes language x c Any todo events todo_ events_
+    → Notes names c x true names_ → GoesOn language x todo events names true todo_ events_ names_
+goes_on x c todo todo_ events events_ names names_ t h n front r = record {
+  path = t.1 n front r.path;
+  same = h.1 ∙ ap (λ (l : List (List ℕ)). l ++ add_if (binds c) x.text []) r.same ∙ sym t.0;
+  new = subst (AreNew []) (sym h.1) (new_join [] names (add_if (binds c) x.text []) r.new h.0);
 }
-  where
-    stops : (G : Grammar) (C : Certain G) (n : G.Nonterminal) (p : G.Production n) (words : List Lexeme) (place : ℕ) (front rest : List Lexeme) → words ≡ front ++ rest → Looks C n → C.pick n words ≡ Some p
-        → ((ts : Trees G (G.parts p)) (after more : List Lexeme) → AllStand ts after → SameNext more rest → front ++ more ≡ all_then ts after → ⊥)
-        → (t : Tree G n) (after more : List Lexeme) → Stands t after → SameNext more rest → front ++ more ≡ then t after → ⊥
-    stops G C n p words place front rest w looks picked none (node r ts) after more s next q =
-        let a : SameNext (front ++ more) words = subst (λ (x : List Lexeme). SameNext (front ++ more) x) (sym w) (next_same front more rest next) in
-        let same : r ≡ p = some_same (sym (C.picks r ts after s) ∙ ap (C.pick n) (sym q) ∙ looks (front ++ more) words a ∙ picked) in
-        subst (λ (o : G.Production n). (us : Trees G (G.parts o)) → AllStand us after → front ++ more ≡ all_then us after → ⊥) (sym same)
-        (λ us l d. none us after more l next d) ts s.1 q
 
--- where no production is picked, reading is stuck at once
-pub stuck_here : {G : Grammar} (C : Certain G) (n : G.Nonterminal) (end : ℕ) (words : List Lexeme) → Looks C n → C.pick n words ≡ None
-    → ((after : List Lexeme) → G.Closes n after → Begins G n [] after) → Stuck G n end words (place_at end words)
-stuck_here {G} C n end words looks none begins = record {
-  front = [];
-  rest = words;
-  whole = refl;
-  here = refl;
-  begins = begins;
-  stops = λ t after more s next q. stops G C n words looks none t after more s next q;
-}
-  where
-    stops : (G : Grammar) (C : Certain G) (n : G.Nonterminal) (words : List Lexeme) → Looks C n → C.pick n words ≡ None
-        → (t : Tree G n) (after more : List Lexeme) → Stands t after → SameNext more words → more ≡ then t after → ⊥
-    stops G C n words looks none (node r ts) after more s next q =
-        none_not_some r (sym none ∙ sym (looks more words next) ∙ ap (C.pick n) q ∙ C.picks r ts after s)
+pub not_new : (x : Lexeme) (c : Class) (todo todo_ todo__ : List Symbol) (events events_ events__ : List StepText) (names names_ names__ : List (List ℕ)) → Takes language x c Any todo events todo_ events_
+    → Notes names c x false names_ → GoesOn language x todo events names false todo__ events__ names__
+not_new x c todo todo_ todo__ events events_ events__ names names_ names__ t h n front r written [] s new nx w = absurd nx
+not_new x c todo todo_ todo__ events events_ events__ names names_ names__ t h n front r written (y ∷ more) s new nx w =
+    let whole = append_assoc front (x ∷ []) more ∙ ap (λ (z : Lexeme). front ++ z ∷ more) nx ∙ w in
+    let d = (t.1 n front r.path).down written more tt s whole in
+    let e = ap named d.says ∙ named_join events_ (all_steps d.written) ∙ ap (λ (l : List (List ℕ)). l ++ named (all_steps d.written)) (t.0 ∙ ap (λ (l : List (List ℕ)). l ++ add_if (binds c) x.text []) (sym r.same)) in
+    h (new_back [] names (add_if (binds c) x.text []) (new_front [] (names ++ add_if (binds c) x.text []) (named (all_steps d.written)) (subst (AreNew []) e new)))
 
-ready_stands : {G : Grammar} (C : Certain G) {m : G.Nonterminal} (t : Tree G m) (rest after : List Lexeme) → Ready G m after → Stands t rest → Stands t after
-ready_stands {G} C {m} t rest after r s = elim r [
-  | inl k ↦ closed_stands C t rest after s k
-  | inr e ↦ e.1 t rest after s
-]
+-- by whether it is new
+pub goes_or_not : (x : Lexeme) (c : Class) (todo todo_ : List Symbol) (events events_ : List StepText) (names names_ : List (List ℕ)) (new : Bool) → Takes language x c Any todo events todo_ events_
+    → Notes names c x new names_ → GoesOn language x todo events names new todo_ events_ names_
+goes_or_not x c todo todo_ events events_ names names_ true t h = goes_on x c todo todo_ events events_ names names_ t h
+goes_or_not x c todo todo_ events events_ names names_ false t h = not_new x c todo todo_ todo_ events events_ events_ names names_ names_ t h
 
-ready_begins : (G : Grammar) (m : G.Nonterminal) (front after : List Lexeme) → ((u : List Lexeme) → G.Closes m u → Begins G m front u) → Ready G m after → Begins G m front after
-ready_begins G m front after b r = elim r [
-  | inl k ↦ b after k
-  | inr e ↦ ended e.1 (b [] e.0)
-]
-  where
-    ended : IsEnded G m → Begins G m front [] → Begins G m front after
-    ended e c = record {
-      written = c.written;
-      more = c.more ++ after;
-      whole = then_append c.written [] after ∙ ap (λ (l : List Lexeme). l ++ after) c.whole ∙ append_assoc front c.more after;
-      stands = e c.written [] after c.stands;
-    }
+pub no_text : (x : Lexeme) (todo todo_ : List Symbol) (events events_ : List StepText) (names names_ : List (List ℕ)) → ((n : Rule) (front : List Lexeme) → Path language n front todo events Any → Halts language n front (Some x))
+    → GoesOn language x todo events names false todo_ events_ names_
+no_text x todo todo_ events events_ names names_ h n front r written more s new nx w = h n front r.path written more s nx w
 
--- the first part
-pub fails_part : {G : Grammar} (C : Certain G) (n m : G.Nonterminal) (ps : Parts G.Nonterminal) (end : ℕ) (words : List Lexeme) (e : SyntaxError)
-    → Completes G n m ps → Fails G m end words e → FailsAll G n (part m ps) end words e
-fails_part C n m ps end words Memory fits h = tt
-fails_part {G} C n m ps end words (Syntax place) fits h = record {
-  front = h.front;
-  rest = h.rest;
-  whole = h.whole;
-  here = h.here;
-  begins = λ after k.
-      let f = fits after k in
-      let b = ready_begins G m h.front (all_then f.written after) h.begins f.ready in
-      record { written = tree b.written f.written; more = b.more; whole = b.whole; stands = (b.stands, f.stands) };
-  stops = λ ts after more s next q. stops G m ps h.front h.rest h.stops ts after more s next q;
-}
-  where
-    stops : (G : Grammar) (m : G.Nonterminal) (ps : Parts G.Nonterminal) (front rest : List Lexeme)
-        → ((t : Tree G m) (after more : List Lexeme) → Stands t after → SameNext more rest → front ++ more ≡ then t after → ⊥)
-        → (ts : Trees G (part m ps)) (after more : List Lexeme) → AllStand ts after → SameNext more rest → front ++ more ≡ all_then ts after → ⊥
-    stops G m ps front rest none (tree t ts) after more s next q = none t (all_then ts after) more s.0 next q
+-- the end
+pub ends_there : (todo : List Symbol) (events events_ : List StepText) → Keeps language None todo events [] events_ → Closes language todo events true events_
+ends_there todo events events_ h n words names r =
+    path_end language n words events_ (subst (AreNew []) (r.same ∙ sym h.0) r.new) (h.1 n words None refl (path_narrow language n words todo events Any (IsNext None) (λ more m. tt) r.path))
 
--- what comes after a part that is read
-pub fails_after : {G : Grammar} (C : Certain G) (n m : G.Nonterminal) (ps : Parts G.Nonterminal) (end : ℕ) (words rest : List Lexeme) (e : SyntaxError) (t : Tree G m)
-    → Completes G n m ps → Stands t rest → words ≡ then t rest → FailsAll G n ps end rest e → FailsAll G n (part m ps) end words e
-fails_after C n m ps end words rest Memory t fits stands w h = tt
-fails_after {G} C n m ps end words rest (Syntax place) t fits stands w h = record {
-  front = then t h.front;
-  rest = h.rest;
-  whole = w ∙ ap (then t) h.whole ∙ then_append t h.front h.rest;
-  here = h.here;
-  begins = λ after k. begins G C n m ps t rest after h.front h.rest h.whole stands (fits after k) (h.begins after k);
-  stops = λ ts after more s next q. stops G C m ps t rest h.front h.rest h.whole stands h.stops ts after more s next q;
-}
-  where
-    begins : (G : Grammar) (C : Certain G) (n m : G.Nonterminal) (ps : Parts G.Nonterminal) (t : Tree G m) (rest after front later : List Lexeme) → rest ≡ front ++ later → Stands t rest
-        → Completion G m ps after → BeginsAll G ps front after → BeginsAll G (part m ps) (then t front) after
-    begins G C n m ps t rest after [] later w s f b = record {
-      written = tree t f.written;
-      more = all_then f.written after;
-      whole = then_append t [] (all_then f.written after);
-      stands = (ready_stands C t rest (all_then f.written after) f.ready s, f.stands);
-    }
-    begins G C n m ps t rest after (x ∷ front) later w s f b = record {
-      written = tree t b.written;
-      more = b.more;
-      whole = ap (then t) b.whole ∙ then_append t (x ∷ front) b.more;
-      stands = (
-        stands_next t (all_then b.written after) rest
-            (subst (λ (l : List Lexeme). SameNext l rest) (sym b.whole) (subst (λ (l : List Lexeme). SameNext (x ∷ front ++ b.more) l) (sym w) refl)) s,
-        b.stands,
-      );
-    }
+pub ends_not : (todo rest : List Symbol) (events between events_ : List StepText) (s : Symbol) → IsNeeded language None s → Keeps language None todo events (s ∷ rest) between → Closes language todo events false events_
+ends_not todo rest events between events_ s needed h n words path written more st new nx w =
+    path_stuck language certain n words s rest between None needed (λ k e. absurd (none_not_some k e))
+    (h.1 n words None refl (path_narrow language n words todo events Any (IsNext None) (λ more m. tt) path)) written more st nx w
 
-    stops : (G : Grammar) (C : Certain G) (m : G.Nonterminal) (ps : Parts G.Nonterminal) (t : Tree G m) (rest front later : List Lexeme) → rest ≡ front ++ later → Stands t rest
-        → ((ts : Trees G ps) (after more : List Lexeme) → AllStand ts after → SameNext more later → front ++ more ≡ all_then ts after → ⊥)
-        → (ts : Trees G (part m ps)) (after more : List Lexeme) → AllStand ts after → SameNext more later → then t front ++ more ≡ all_then ts after → ⊥
-    stops G C m ps t rest front later w s none (tree u us) after more h next q =
-        let n : SameNext (front ++ more) rest = subst (λ (l : List Lexeme). SameNext (front ++ more) l) (sym w) (next_same front more later next) in
-        let r = same C t u (front ++ more) (all_then us after) (stands_next t (front ++ more) rest n s) h.0 (then_append t front more ∙ q) in
-        none us after more h.1 next r.1
+pub omits_some : (k : Option Sort) (todo todo_ : List Symbol) (events events_ : List StepText) (o : Option Symbol) (s : Symbol) → o ≡ Some s → Omits language k todo events o todo_ events_
+    → IsNeeded language k s × Keeps language k todo events (s ∷ todo_) events_
+omits_some k todo todo_ events events_ o s e h = subst (λ (p : Option Symbol). Omits language k todo events p todo_ events_) e h
 
--- what comes after a token that is read
-pub fails_behind : (G : Grammar) (n : G.Nonterminal) (c : Terminal) (f : Lexeme → Parts G.Nonterminal) (end : ℕ) (words rest : List Lexeme) (e : SyntaxError) (x : Lexeme)
-    → Is c x → words ≡ x ∷ rest → FailsAll G n (f x) end rest e → FailsAll G n (token c f) end words e
-fails_behind G n c f end words rest Memory x is w h = tt
-fails_behind G n c f end words rest (Syntax place) x is w h = record {
-  front = x ∷ h.front;
-  rest = h.rest;
-  whole = w ∙ ap (λ (l : List Lexeme). x ∷ l) h.whole;
-  here = h.here;
-  begins = λ after k.
-      let b = h.begins after k in
-      record { written = leaf x b.written; more = b.more; whole = ap (λ (l : List Lexeme). x ∷ l) b.whole; stands = (is, b.stands) };
-  stops = λ ts after more s next q. stops G c f x h.front h.rest h.stops ts after more s next q;
-}
-  where
-    stops : (G : Grammar) (c : Terminal) (f : Lexeme → Parts G.Nonterminal) (x : Lexeme) (front rest : List Lexeme)
-        → ((ts : Trees G (f x)) (after more : List Lexeme) → AllStand ts after → SameNext more rest → front ++ more ≡ all_then ts after → ⊥)
-        → (ts : Trees G (token c f)) (after more : List Lexeme) → AllStand ts after → SameNext more rest → x ∷ front ++ more ≡ all_then ts after → ⊥
-    stops G c f x front rest none (leaf y ts) after more s next q =
-        let a = first_same x y (front ++ more) (all_then ts after) q in
-        subst (λ (z : Lexeme). (us : Trees G (f z)) → AllStand us after → front ++ more ≡ all_then us after → ⊥) a.0
-        (λ us l d. none us after more l next d) ts s.1 a.1
+pub omits_none : (k : Option Sort) (todo todo_ : List Symbol) (events events_ : List StepText) (o : Option Symbol) → o ≡ None → Omits language k todo events o todo_ events_ → Keeps language k todo events [] events_
+omits_none k todo todo_ events events_ o e h = subst (λ (p : Option Symbol). Omits language k todo events p todo_ events_) e h
 
--- a token that is missing
-pub fails_missing : (G : Grammar) (n : G.Nonterminal) (c : Terminal) (f : Lexeme → Parts G.Nonterminal) (end : ℕ) (words : List Lexeme) (e : SyntaxError)
-    → Fills G n (token c f) → IsMissing c end words e → FailsAll G n (token c f) end words e
-fails_missing G n c f end words Memory fills h = tt
-fails_missing G n c f end words (Syntax place) fills h = record {
-  front = [];
-  rest = words;
-  whole = refl;
-  here = h.here;
-  begins = λ after k.
-      let b = fills after k in
-      record { written = b.written; more = all_then b.written after; whole = refl; stands = b.stands };
-  stops = λ ts after more s next q. stops G c f words h.none ts after more s next q;
-}
-  where
-    stops : (G : Grammar) (c : Terminal) (f : Lexeme → Parts G.Nonterminal) (words : List Lexeme) → IsNotNext (Is c) words
-        → (ts : Trees G (token c f)) (after more : List Lexeme) → AllStand ts after → SameNext more words → more ≡ all_then ts after → ⊥
-    stops G c f words none (leaf x ts) after more s next q =
-        not_next (Is c) (x ∷ all_then ts after) words (subst (λ (l : List Lexeme). SameNext l words) q next) none s.0
+pub accepted : (x : Lexeme) (todo todo_ : List Symbol) (events events_ : List StepText) (o : Option Class) (c : Class) → o ≡ Some c → Accepts language x todo events o todo_ events_
+    → Takes language x c Any todo events todo_ events_
+accepted x todo todo_ events events_ o c e h = subst (λ (p : Option Class). Accepts language x todo events p todo_ events_) e h
+
+pub not_accepted : (x : Lexeme) (todo todo_ : List Symbol) (events events_ : List StepText) (names names_ : List (List ℕ)) (o : Option Class) → o ≡ None → Accepts language x todo events o todo_ events_
+    → GoesOn language x todo events names false todo_ events_ names_
+not_accepted x todo todo_ events events_ names names_ o e h = no_text x todo todo_ events events_ names names_ (subst (λ (p : Option Class). Accepts language x todo events p todo_ events_) e h)

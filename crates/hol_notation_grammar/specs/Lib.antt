@@ -1,6 +1,9 @@
 pub use Rattle.hol_notation_tokens.specs.Lexeme
-pub mod Terminal
-pub mod Syntax
+pub mod Number
+pub mod Sort
+pub mod Table
+pub mod Grammar
+pub mod Step
 pub mod Reading
-pub mod Class
-pub mod Over
+pub mod Ending
+pub mod Path

@@ -1,52 +1,56 @@
--- Reading a part of a text: what is found there, and where reading is stuck.
-use Rattle.std.specs.Prelude.{◌≡◌, ℕ, List, ◌++◌, map, Result, Ok, Err}
-use Rattle.std.specs.Borrow.{Bor}
+-- What a text reads as: what is written there, or the place where nothing that is written goes on.
+use Rattle.std.specs.Prelude.{◌≡◌, ℕ, List, [], ◌∷◌, ◌++◌, Option, Some, None}
 use Rattle.hol_notation_tokens.specs.declared.error.SyntaxError.{SyntaxError}
 use Rattle.hol_notation_tokens.specs.declared.error.SyntaxError.TheVariants.{Memory, Syntax}
-use Rattle.hol_notation_tokens.specs.declared.lexer.Word.{Word}
-use Rattle.hol_notation_tokens.specs.Lexeme.{Lexeme, seen}
-use Rattle.hol_notation_grammar.specs.Terminal.{Terminal, Is, IsNotNext, SameNext, place_at}
-use Rattle.hol_notation_grammar.specs.Syntax.{Grammar, Tree, then, Stands}
+use Rattle.hol_notation_tokens.specs.Lexeme.{Lexeme}
+use Rattle.hol_notation_grammar.specs.declared.grammar.Rule.{Rule}
+use Rattle.hol_notation_grammar.specs.Grammar.{Grammar, Tree, then, Stands, StepText, steps, named, AreNew}
 
--- before these lexemes stands a tree that begins with the front
-pub record Begins (G : Grammar) (n : G.Nonterminal) (front after : List Lexeme) : Type 0 where
-  pub written : Tree G n
+-- the lexemes are a text, whose tree has these steps
+pub record IsText (G : Grammar) (n : Rule) (words : List Lexeme) (events : List StepText) : Type 0 where
+  pub written : Tree
+  pub stands : Stands G n written []
+  pub different : AreNew [] (named (steps written))
+  pub whole : words ≡ then written []
+  pub says : events ≡ steps written
+
+-- some text begins with these lexemes
+pub record IsBeginning (G : Grammar) (n : Rule) (front : List Lexeme) : Type 0 where
+  pub written : Tree
+  pub stands : Stands G n written []
+  pub different : AreNew [] (named (steps written))
   pub more : List Lexeme
-  pub whole : then written after ≡ front ++ more
-  pub stands : Stands written after
+  pub whole : front ++ more ≡ then written []
 
--- The lexemes are a front and a rest, at whose first lexeme or end the place is. Something written begins with the
--- front, whatever closes it, and nothing written goes on after it with the rest's first lexeme, or ends there where the
--- rest is empty.
-pub record Stuck (G : Grammar) (n : G.Nonterminal) (end : ℕ) (lexemes : List Lexeme) (place : ℕ) : Type 0 where
+-- what comes next is this lexeme, or nothing
+abbrev pub IsNext : Option Lexeme → List Lexeme → Type 0
+IsNext None [] = Unit {0}
+IsNext None (y ∷ rest) = ⊥
+IsNext (Some x) [] = ⊥
+IsNext (Some x) (y ∷ rest) = x ≡ y
+
+abbrev pub first : List Lexeme → Option Lexeme
+first [] = None
+first (x ∷ rest) = Some x
+
+abbrev pub place_at : ℕ → List Lexeme → ℕ
+place_at end [] = end
+place_at end (x ∷ rest) = x.place
+
+-- no text begins with the front and goes on with this lexeme, or ends there
+abbrev pub Stops : Grammar → Rule → List Lexeme → Option Lexeme → Type 0
+Stops G n front next = (t : Tree) (more : List Lexeme) → Stands G n t [] → AreNew [] (named (steps t)) → IsNext next more → front ++ more ≡ then t [] → ⊥
+
+-- A text begins with all before the place, and none goes on with what stands at the place; or ends there, where the
+-- lexemes do.
+pub record IsStuck (G : Grammar) (n : Rule) (end : ℕ) (words : List Lexeme) (place : ℕ) : Type 0 where
   pub front : List Lexeme
   pub rest : List Lexeme
-  pub whole : lexemes ≡ front ++ rest
+  pub whole : words ≡ front ++ rest
   pub here : place ≡ place_at end rest
-  pub begins : (after : List Lexeme) → G.Closes n after → Begins G n front after
-  pub stops : (t : Tree G n) (after more : List Lexeme) → Stands t after → SameNext more rest → front ++ more ≡ then t after → ⊥
+  pub begins : IsBeginning G n front
+  pub stops : Stops G n front (first rest)
 
--- The lexemes are a tree that says this, and the rest, before which it stands.
-pub record Found {G : Grammar} {n : G.Nonterminal} {V : Type 0} (value : Tree G n → V) (lexemes : List Lexeme) (v : V) (rest : List Lexeme) : Type 0 where
-  pub written : Tree G n
-  pub whole : lexemes ≡ then written rest
-  pub stands : Stands written rest
-  pub says : v ≡ value written
-
-abbrev pub Fails : (G : Grammar) → G.Nonterminal → ℕ → List Lexeme → SyntaxError → Type 0
-Fails G n end lexemes Memory = Unit {0}
-Fails G n end lexemes (Syntax place) = Stuck G n end lexemes place
-
--- What a reader answers: what is written and the rest, or the place where it is stuck, unless memory ran out.
-abbrev pub ReadsPart : {G : Grammar} {n : G.Nonterminal} {V T : Type 0} → (Tree G n → V) → (T → V) → ℕ → List Word → Result (T × Bor (List Word)) SyntaxError → Type 0
-ReadsPart value view end words (Ok x) = Found value (map seen words) (view x.0) (map seen x.1.now)
-ReadsPart {G} {n} value view end words (Err e) = Fails G n end (map seen words) e
-
--- the next token is none of this sort
-pub record IsMissingAt (c : Terminal) (end : ℕ) (lexemes : List Lexeme) (place : ℕ) : Type 0 where
-  pub here : place ≡ place_at end lexemes
-  pub none : IsNotNext (Is c) lexemes
-
-abbrev pub IsMissing : Terminal → ℕ → List Lexeme → SyntaxError → Type 0
-IsMissing c end lexemes Memory = Unit {0}
-IsMissing c end lexemes (Syntax place) = IsMissingAt c end lexemes place
+abbrev pub Fails : Grammar → Rule → ℕ → List Lexeme → SyntaxError → Type 0
+Fails G n end words Memory = Unit {0}
+Fails G n end words (Syntax place) = IsStuck G n end words place

@@ -5,8 +5,4 @@ pub mod ThmView
 pub mod ArgumentView
 pub mod TacView
 pub mod Falls
-pub mod Number
-pub mod Grammar
-pub mod Value
-pub mod Lead
 pub mod Leading

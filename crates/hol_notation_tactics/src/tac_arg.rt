@@ -10,7 +10,7 @@ use std::marker::Model;
 /// An argument of a TAC, as it is written.
 #[derive(Drop)]
 pub struct TacArg {
-    pub(crate) node: TacArgNode,
+    node: TacArgNode,
 }
 
 /// What an argument of a TAC is.

@@ -1,11 +1,1 @@
-pub mod Picks
-pub mod Certain
-pub mod Some
-pub mod TypeSteps
-pub mod QuotationSteps
-pub mod TermSteps
-pub mod Inside
-pub mod Fresh
-pub mod DefinitionSteps
-pub mod OneReading
 pub mod SameTypes

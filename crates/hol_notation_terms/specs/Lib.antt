@@ -2,10 +2,4 @@ pub mod Text
 pub mod Code
 pub mod TypeView
 pub mod TermView
-pub mod TakenNames
 pub mod Falls
-pub mod Grammar
-pub mod Value
-pub mod Next
-pub mod Parameters
-pub mod Inside

@@ -33,7 +33,7 @@ use Rattle.hol_notation_tactics.specs.Parts.{parts_of}
 use Rattle.hol_notation_tactics.specs.Text.{TacText}
 use Rattle.hol_notation_terms.specs.Text.{QuotationText, DefinitionText}
 use Rattle.hol_notation_commands.specs.Text.{TypeDefinitionText, MakingText, NewType, NewConstant, NewAxiom, NewDefinition, NewBasicTypeDefinition, LocalText, Goal, Apply, Qed, DefineTac, Make, Back, Rotate, Oops, Import, Local, Direct}
-use Rattle.hol_notation_commands.specs.Reading.{ReadText, Reads, Breaks}
+use Rattle.hol_notation_reader.specs.Reading.{ReadText, Reads, Breaks}
 use Rattle.hol_resolve.specs.Reading.{ReadingValue, WrongArity, NoTyping, LargeReading, ReadsAs, type_reading}
 use Rattle.hol_resolve.specs.Readings.{ReadingsValue}
 use Rattle.hol_resolve.specs.Readings as quoting

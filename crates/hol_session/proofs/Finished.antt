@@ -5,7 +5,7 @@ use Rattle.std.proofs.lemmas.Option.{same_Some}
 use Rattle.hol_terms.specs.Nameless.{Nameless}
 use Rattle.hol_theory.specs.Key.{KeyValue}
 use Rattle.hol_notation_commands.specs.Text.{Local, Qed}
-use Rattle.hol_notation_commands.specs.Reading.{Reads}
+use Rattle.hol_notation_reader.specs.Reading.{Reads}
 use Rattle.hol_exec.specs.declared.reports.refusal.RefusalKind.TheVariants as refusal
 use Rattle.hol_exec.specs.At.{IsOutcome}
 use Rattle.hol_exec.specs.Local.{LocalValue, finished, finishes}

@@ -22,7 +22,7 @@ use Rattle.hol_kernel.specs.Typing.{is_type_at}
 use Rattle.hol_notation_tactics.specs.Text.{TacText}
 use Rattle.hol_notation_terms.specs.Text.{QuotationText}
 use Rattle.hol_notation_commands.specs.Text.{MakingText, NewType, NewConstant, NewAxiom, NewDefinition, NewBasicTypeDefinition, Local, Direct, Goal, Apply, Qed, DefineTac, Make, Back, Rotate, Oops, Import}
-use Rattle.hol_notation_commands.specs.Reading.{ReadText, Reads, Breaks}
+use Rattle.hol_notation_reader.specs.Reading.{ReadText, Reads, Breaks}
 use Rattle.hol_resolve.specs.Reading.{ReadingValue, WrongArity, NoTyping, LargeReading, ReadsAs, type_reading}
 use Rattle.hol_theory.specs.Key.{KeyValue}
 use Rattle.hol_theory.specs.Adding.{missing, first_clash}

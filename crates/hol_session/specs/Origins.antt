@@ -8,7 +8,7 @@ use Rattle.hol_kernel.specs.Sequent.{no_hyps, sequent_of}
 use Rattle.hol_kernel.specs.Theorem.{Theorem}
 use Rattle.hol_notation_terms.specs.Text.{QuotationText}
 use Rattle.hol_notation_commands.specs.Text.{MakingText, NewType, NewConstant, NewAxiom, NewDefinition, NewBasicTypeDefinition, Local, Direct, Goal, Apply, Qed, DefineTac, Make, Import}
-use Rattle.hol_notation_commands.specs.Reading.{ReadText, Reads, Breaks}
+use Rattle.hol_notation_reader.specs.Reading.{ReadText, Reads, Breaks}
 use Rattle.hol_theory.specs.Key.{KeyValue, theorem_key}
 use Rattle.hol_theory.specs.Entry.{EntryValue, AType, AConstant, ATheorem, ATac, entry_basis}
 use Rattle.hol_exec.specs.StateValue.{StateValue}

@@ -7,7 +7,7 @@ ghost use Rattle.hol_kernel.specs.Items.{Holds};
 ghost use Rattle.hol_exec.specs.ReportOf.{theorem_text};
 ghost use Rattle.hol_exec.specs.ReportValue.{ReportValue, HasMade};
 ghost use Rattle.hol_notation_commands.specs.Text.{Local, Qed};
-ghost use Rattle.hol_notation_commands.specs.Reading.{Reads};
+ghost use Rattle.hol_notation_reader.specs.Reading.{Reads};
 ghost use Rattle.hol_wire.specs.Replies.{ReplyValue};
 ghost use Rattle.hol_document.specs.Documents.{Documents};
 ghost use Rattle.hol_document.specs.Afresh.{TheoryRun, AreRunsOf};

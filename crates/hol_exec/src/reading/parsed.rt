@@ -1,13 +1,14 @@
 //! What a text reads as.
 ghost use Rattle.std.specs.Prelude.{◌≡◌, IfOk, decimal};
-ghost use Rattle.hol_notation_commands.specs.Reading.{IsRead};
+ghost use Rattle.hol_notation_reader.specs.Reading.{IsRead};
 ghost use Rattle.hol_exec.specs.declared.reports.refusal.RefusalKind.TheVariants.{Syntax};
 ghost use Rattle.hol_exec.specs.OutcomeValue.{Refuses};
 ghost use Rattle.hol_exec.specs.ParsedView.{parsed_value};
 
 use crate::reports::RefusalKind;
 use crate::running::{Outcome, refused_at};
-use hol_notation_commands::{Command, read_command};
+use hol_notation_commands::Command;
+use hol_notation_reader::read_command;
 use hol_notation_tokens::SyntaxError;
 use std::alloc::{AllocError, Global};
 

@@ -1,0 +1,9 @@
+pub use Rattle.hol_notation_tokens.specs.Token
+pub use Rattle.hol_notation_tokens.specs.Lexeme
+pub mod Piece
+pub mod Build
+pub mod View
+pub mod Value
+pub mod Fold
+pub mod Reading
+pub mod Errors
