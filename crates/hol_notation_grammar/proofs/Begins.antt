@@ -1,10 +1,9 @@
 -- The walk over the productions of a rule.
-use Rattle.std.proofs.Common.{◌≡◌, ◌<◌, ◌-◌, ◌+◌, Bool, true, false, ◌||◌, ℕ, zero, suc, List, [], ◌∷◌, refl, ap, ◌∙◌, sym, subst, length, drop, get_or, arith}
+use Rattle.std.proofs.Common.{◌≡◌, ◌<◌, ◌-◌, Bool, true, ◌||◌, ℕ, zero, suc, List, refl, ap, ◌∙◌, sym, length, drop, get_or, arith}
 use Rattle.std.proofs.lemmas.List.{drop_more}
 use Rattle.hol_notation_grammar.specs.declared.sort.Sort.{Sort}
 use Rattle.hol_notation_grammar.specs.declared.grammar.Rule.{Rule}
 use Rattle.hol_notation_grammar.specs.declared.grammar.Production.{Production}
-use Rattle.hol_notation_grammar.specs.declared.grammar.Symbol.{Symbol}
 use Rattle.hol_notation_grammar.specs.Table.{productions, symbols}
 use Rattle.hol_notation_grammar.specs.Grammar.{language, leads, some_leads, begins}
 

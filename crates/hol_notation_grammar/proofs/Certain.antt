@@ -1,5 +1,5 @@
 -- The grammar is certain: each of these is computed.
-use Rattle.std.proofs.Common.{◌≡◌, Bool, true, false, refl, ◌&&◌, not, Option, Some, None, subst, sym}
+use Rattle.std.proofs.Common.{◌≡◌, true, refl, Option, Some, None}
 use Rattle.hol_notation_grammar.specs.declared.sort.Sort.{Sort}
 use Rattle.hol_notation_grammar.specs.declared.grammar.Rule.{Rule}
 use Rattle.hol_notation_grammar.specs.declared.grammar.Rule.TheVariants as rule
@@ -8,9 +8,9 @@ use Rattle.hol_notation_grammar.specs.declared.grammar.Class.TheVariants as clas
 use Rattle.hol_notation_grammar.specs.declared.grammar.Production.{Production}
 use Rattle.hol_notation_grammar.specs.declared.grammar.Production.TheVariants.{OpenGoal}
 use Rattle.hol_notation_grammar.specs.Table.{has}
-use Rattle.hol_notation_grammar.specs.Grammar.{language, leads, begins, opens, IsAmong}
+use Rattle.hol_notation_grammar.specs.Grammar.{language, begins, opens, IsAmong}
 use Rattle.hol_notation_grammar.specs.Ending.{is_empty, sample, parts_of_first, extends, IsShut, IsReady}
-use Rattle.hol_notation_grammar.proofs.Leads.{Certain, IsSolid, leading, is_grown, is_firm}
+use Rattle.hol_notation_grammar.proofs.Leads.{Certain, leading, is_grown, is_firm}
 use Rattle.hol_notation_grammar.proofs.Checks.{every_sort, each_sort, at_most_one, only_one, empty_is, is_solid, solid_by, implies, implied, every, each_production, is_shut, is_ready, shut_is, ready_by, opened_not}
 
 whole_computed : (n : Rule) → every_sort (λ k. implies (begins language 13 n k) (begins language 12 n k)) ≡ true

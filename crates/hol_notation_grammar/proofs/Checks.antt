@@ -1,5 +1,5 @@
 -- What can be computed of a grammar, to show that it is certain.
-use Rattle.std.proofs.Common.{◌≡◌, ◌⊎◌, inl, inr, Bool, true, false, ◌||◌, ◌&&◌, not, cond, List, [], ◌∷◌, refl, ap, ◌∙◌, sym, subst, Option, Some, None}
+use Rattle.std.proofs.Common.{◌≡◌, ◌⊎◌, inl, inr, Bool, true, false, ◌||◌, ◌&&◌, not, cond, List, [], ◌∷◌, refl, ap, ◌∙◌, sym, Option, Some, None}
 use Rattle.std.proofs.lemmas.Bool.{false≢true}
 use Rattle.hol_notation_grammar.specs.declared.sort.Sort.{Sort}
 use Rattle.hol_notation_grammar.specs.declared.sort.Sort.TheVariants as sort
@@ -7,9 +7,9 @@ use Rattle.hol_notation_grammar.specs.declared.grammar.Rule.{Rule}
 use Rattle.hol_notation_grammar.specs.declared.grammar.Production.{Production}
 use Rattle.hol_notation_grammar.specs.declared.grammar.Symbol.{Symbol}
 use Rattle.hol_notation_grammar.specs.declared.grammar.Symbol.TheVariants.{Token, Part}
-use Rattle.hol_notation_grammar.specs.Grammar.{Grammar, leads, begins, opens, IsAmong}
+use Rattle.hol_notation_grammar.specs.Grammar.{Grammar, IsAmong}
 use Rattle.hol_notation_grammar.specs.Ending.{is_empty, next_of, extends, IsShut, IsReady}
-use Rattle.hol_notation_grammar.proofs.Leads.{IsSolid, leading}
+use Rattle.hol_notation_grammar.proofs.Leads.{IsSolid}
 
 and_left : (a b : Bool) → (a && b) ≡ true → a ≡ true
 and_left true b e = refl

@@ -1,5 +1,5 @@
 -- What is begun can be ended.
-use Rattle.std.proofs.Common.{◌≡◌, ◌≤◌, ◌+◌, ◌⊎◌, inl, inr, Bool, true, false, ◌&&◌, not, ℕ, zero, suc, List, [], ◌∷◌, ◌++◌, refl, ap, ◌∙◌, sym, subst, Option, Some, None, length, arith, append_assoc}
+use Rattle.std.proofs.Common.{◌≡◌, ◌+◌, inl, Bool, true, false, ◌&&◌, not, ℕ, zero, suc, List, [], ◌∷◌, ◌++◌, refl, ap, ◌∙◌, sym, subst, Option, Some, None, length, arith, append_assoc}
 use Rattle.std.proofs.lemmas.Bool.{false≢true}
 use Rattle.hol_notation_grammar.specs.declared.sort.Sort.{Sort}
 use Rattle.hol_notation_tokens.specs.Lexeme.{Lexeme}
@@ -11,10 +11,10 @@ use Rattle.hol_notation_grammar.specs.declared.grammar.Symbol.{Symbol}
 use Rattle.hol_notation_grammar.specs.declared.grammar.Symbol.TheVariants.{Token, Part}
 use Rattle.hol_notation_grammar.specs.Sort.{sort_of}
 use Rattle.hol_notation_grammar.specs.Table.{has, binds}
-use Rattle.hol_notation_grammar.specs.Grammar.{Grammar, Tree, node, Trees, done, leaf, tree, then, all_then, Stands, AllStand, opens, IsAmong, WhereEmpty, IsNotNext, StepText, take, steps, all_steps, named, add_if, AreNew}
+use Rattle.hol_notation_grammar.specs.Grammar.{Grammar, Tree, node, Trees, done, leaf, tree, then, all_then, Stands, AllStand, IsAmong, WhereEmpty, IsNotNext, StepText, take, steps, all_steps, named, add_if, AreNew}
 use Rattle.hol_notation_grammar.specs.Reading.{IsBeginning, first}
 use Rattle.hol_notation_grammar.specs.Path.{Path, Any, sort_next}
-use Rattle.hol_notation_grammar.specs.Ending.{sample, parts_of_first, head_sort, start_sort, or_else, next_of, is_none, extends, IsShut, IsReady}
+use Rattle.hol_notation_grammar.specs.Ending.{sample, parts_of_first, head_sort, start_sort, or_else, next_of, is_none, IsShut, IsReady}
 use Rattle.std.proofs.lemmas.List.{append-nil}
 use Rattle.hol_notation_grammar.proofs.Marks.{mark, mark_sort, mark_length}
 use Rattle.hol_notation_grammar.proofs.Names.{Falling, falling_wider, falling_join, total, named_join}

@@ -1,5 +1,5 @@
 -- What makes a grammar certain, and the token with which what is written begins.
-use Rattle.std.proofs.Common.{◌≡◌, ◌⊎◌, inl, inr, Bool, true, false, ◌||◌, cond, ℕ, zero, suc, List, [], ◌∷◌, refl, ap, ◌∙◌, sym, subst, ◌&&◌, not, Option, Some, None}
+use Rattle.std.proofs.Common.{◌≡◌, ◌⊎◌, inl, inr, Bool, true, false, ◌||◌, ℕ, zero, suc, List, [], ◌∷◌, refl, subst, ◌&&◌, not, Option}
 use Rattle.std.proofs.lemmas.Bool.{false≢true}
 use Rattle.hol_notation_grammar.specs.declared.sort.Sort.{Sort}
 use Rattle.hol_notation_tokens.specs.Lexeme.{Lexeme}
@@ -10,7 +10,7 @@ use Rattle.hol_notation_grammar.specs.declared.grammar.Symbol.TheVariants.{Token
 use Rattle.hol_notation_grammar.specs.declared.grammar.Class.{Class}
 use Rattle.hol_notation_grammar.specs.Sort.{sort_of}
 use Rattle.hol_notation_grammar.specs.Table.{has}
-use Rattle.hol_notation_grammar.specs.Grammar.{Grammar, Tree, node, Trees, done, leaf, tree, then, all_then, Stands, AllStand, leads, some_leads, begins, opens, IsAmong, WhereEmpty, IsNotNext}
+use Rattle.hol_notation_grammar.specs.Grammar.{Grammar, Tree, node, Trees, done, leaf, tree, then, all_then, Stands, AllStand, leads, some_leads, begins, opens, IsAmong}
 use Rattle.hol_notation_grammar.specs.Ending.{sample, parts_of_first, start_sort, is_none, extends, IsShut, IsReady}
 
 -- the part with which a production begins is never empty

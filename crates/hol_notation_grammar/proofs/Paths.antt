@@ -1,5 +1,5 @@
 -- The steps of the machine keep the path.
-use Rattle.std.proofs.Common.{◌≡◌, ◌⊎◌, inl, inr, Bool, true, false, ℕ, List, [], ◌∷◌, ◌++◌, refl, ap, ◌∙◌, sym, subst, append_assoc, Option, Some, None}
+use Rattle.std.proofs.Common.{◌≡◌, Bool, true, false, List, [], ◌∷◌, ◌++◌, refl, ap, ◌∙◌, sym, subst, append_assoc, Option, Some, None}
 use Rattle.std.proofs.lemmas.Bool.{false≢true}
 use Rattle.std.proofs.lemmas.List.{append-nil}
 use Rattle.hol_notation_grammar.specs.declared.sort.Sort.{Sort}
@@ -11,13 +11,13 @@ use Rattle.hol_notation_grammar.specs.declared.grammar.Symbol.{Symbol}
 use Rattle.hol_notation_grammar.specs.declared.grammar.Symbol.TheVariants.{Token, Part}
 use Rattle.hol_notation_grammar.specs.Sort.{sort_of}
 use Rattle.hol_notation_grammar.specs.Table.{has}
-use Rattle.hol_notation_grammar.specs.Grammar.{Grammar, Tree, node, Trees, done, leaf, tree, then, all_then, Stands, AllStand, StepText, choose, take, steps, all_steps, leads, opens, IsAmong, WhereEmpty, IsNotNext, named, AreNew}
+use Rattle.hol_notation_grammar.specs.Grammar.{Grammar, Tree, node, Trees, done, leaf, tree, all_then, Stands, AllStand, StepText, choose, take, steps, all_steps, leads, opens, IsAmong, WhereEmpty, IsNotNext, named, AreNew}
 use Rattle.hol_notation_grammar.specs.Reading.{IsNext, IsText}
-use Rattle.hol_notation_grammar.specs.Path.{Path, Up, Down, Any, Halts, sort_next, opens_next, IsFull, IsOmitted, IsNeeded}
+use Rattle.hol_notation_grammar.specs.Path.{Path, Up, Down, Any, Halts, sort_next, opens_next, IsOmitted, IsNeeded}
 use Rattle.hol_notation_grammar.proofs.Trees.{join, then_join, steps_join, stand_join, Split, split}
 use Rattle.hol_notation_grammar.specs.Ending.{next_of}
 use Rattle.hol_notation_grammar.proofs.Endings.{ready_join}
-use Rattle.hol_notation_grammar.proofs.Leads.{Certain, IsSolid, leading, First, tree_first, trees_first, opens_by}
+use Rattle.hol_notation_grammar.proofs.Leads.{Certain, IsSolid, leading, trees_first, opens_by}
 
 next_same : (x y : Lexeme) (more rest : List Lexeme) → more ≡ y ∷ rest → IsNext (Some x) more → x ≡ y
 next_same x y more rest e h = subst (λ (l : List Lexeme). IsNext (Some x) l) e h

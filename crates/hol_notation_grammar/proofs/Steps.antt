@@ -11,17 +11,15 @@ use Rattle.hol_notation_grammar.specs.declared.grammar.Production.{Production}
 use Rattle.hol_notation_grammar.specs.declared.grammar.Symbol.{Symbol}
 use Rattle.hol_notation_grammar.specs.declared.grammar.Symbol.TheVariants.{Token, Part}
 use Rattle.hol_notation_grammar.specs.declared.machine.Step.{Step}
-use Rattle.hol_notation_grammar.specs.declared.machine.Step.TheVariants.{Choose, Take}
 use Rattle.hol_notation_grammar.specs.Sort.{sort_of}
 use Rattle.hol_notation_grammar.specs.Step.{step_text, step_texts}
 use Rattle.hol_notation_grammar.specs.Table.{has, binds, productions, symbols}
-use Rattle.hol_notation_grammar.specs.Grammar.{Grammar, language, leads, some_leads, begins, opens, IsAmong, StepText, choose, take, named, add_if, AreNew, Tree, Stands, then, all_steps}
-use Rattle.hol_notation_grammar.specs.Reading.{IsText, IsNext, Stops}
-use Rattle.hol_notation_grammar.specs.Path.{Path, Any, sort_next, IsOmitted, IsNeeded, Keeps, Omits, TakesFirst, Takes, Halts, Accepts, Notes, IsReadTo, GoesOn, Closes}
-use Rattle.hol_notation_grammar.proofs.Leads.{Certain, leading, some_elim, some_intro, leads_wider, opens_wider, leads_less}
+use Rattle.hol_notation_grammar.specs.Grammar.{language, leads, some_leads, begins, opens, IsAmong, StepText, choose, take, named, add_if, AreNew, all_steps}
+use Rattle.hol_notation_grammar.specs.Reading.{IsNext}
+use Rattle.hol_notation_grammar.specs.Path.{Path, Any, IsOmitted, IsNeeded, Keeps, Omits, TakesFirst, Takes, Halts, Accepts, Notes, GoesOn, Closes}
+use Rattle.hol_notation_grammar.proofs.Leads.{leading, some_elim, some_intro, leads_wider, opens_wider, leads_less}
 use Rattle.hol_notation_grammar.proofs.Certain.{certain}
 use Rattle.hol_notation_grammar.proofs.Paths.{path_narrow, path_take, path_stuck, path_over, path_end, path_omit, path_descend}
-use Rattle.std.specs.Prelude.{map}
 use Rattle.std.proofs.lemmas.List.{append-nil, map-append}
 use Rattle.hol_notation_grammar.proofs.Names.{named_join, new_front, new_back, new_join}
 

@@ -1,5 +1,5 @@
 -- From the machine's path to what a text reads as.
-use Rattle.std.proofs.Common.{◌≡◌, ◌<◌, ◌≤◌, ◌+◌, Bool, true, false, ℕ, List, [], ◌∷◌, ◌++◌, refl, ap, ◌∙◌, sym, subst, length, take, drop, map, get_or, arith, Option, Some, None}
+use Rattle.std.proofs.Common.{◌≡◌, ◌<◌, ◌≤◌, ◌+◌, Bool, true, false, ℕ, List, [], ◌∷◌, ◌++◌, refl, ap, ◌∙◌, sym, subst, length, take, drop, map, get_or}
 use Rattle.std.proofs.lemmas.List.{drop_more, take_more, get_or-map, length-map, take-append-drop, take_all, append-nil}
 use Rattle.hol_notation_tokens.specs.declared.token.Kind.TheVariants.{Ident}
 use Rattle.hol_notation_tokens.specs.declared.lexer.Word.{Word}
@@ -9,7 +9,7 @@ use Rattle.hol_notation_grammar.specs.declared.grammar.Symbol.{Symbol}
 use Rattle.hol_notation_grammar.specs.declared.grammar.Symbol.TheVariants.{Part}
 use Rattle.hol_notation_grammar.specs.Grammar.{language, StepText, AreNew}
 use Rattle.hol_notation_grammar.specs.Reading.{IsText, IsBeginning, IsStuck, Stops, first, place_at}
-use Rattle.hol_notation_grammar.specs.Path.{Path, Any, IsReadTo, GoesOn, Closes}
+use Rattle.hol_notation_grammar.specs.Path.{IsReadTo, GoesOn, Closes}
 use Rattle.hol_notation_grammar.proofs.Paths.{path_start}
 use Rattle.hol_notation_grammar.proofs.Endings.{path_begins}
 use Rattle.hol_notation_grammar.proofs.Certain.{certain}

@@ -8,7 +8,7 @@ use Rattle.hol_notation_grammar.specs.declared.grammar.Symbol.{Symbol}
 use Rattle.hol_notation_grammar.specs.declared.grammar.Symbol.TheVariants.{Token, Part}
 use Rattle.hol_notation_grammar.specs.declared.grammar.Class.{Class}
 use Rattle.hol_notation_grammar.specs.Sort.{sort_of}
-use Rattle.hol_notation_grammar.specs.Table.{has, binds}
+use Rattle.hol_notation_grammar.specs.Table.{binds}
 use Rattle.hol_notation_grammar.specs.Grammar.{Grammar, Tree, Trees, then, all_then, Stands, AllStand, StepText, steps, all_steps, opens, IsAmong, named, add_if, AreNew}
 use Rattle.hol_notation_grammar.specs.Ending.{IsReady}
 use Rattle.hol_notation_grammar.specs.Reading.{IsNext, IsText, Stops}

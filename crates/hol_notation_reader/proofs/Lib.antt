@@ -1,5 +1,5 @@
 pub mod Pieces
 pub mod Lists
-pub mod Fold
+pub mod Values
 pub mod Text
 pub mod OneReading

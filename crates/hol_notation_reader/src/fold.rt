@@ -15,7 +15,7 @@ pub(crate) fn evaluate<'t>(
     steps: Vec<Step<'t>>,
 ) -> Result<Vec<Piece<'t>>, AllocError>
     requires { Fit (step_texts steps.items) [] }
-    ensures { IfOk result (λ pieces. pieces_of pieces.items ≡ evaluate (step_texts steps.items) []) }
+    ensures { IfOk result (λ pieces. pieces_of pieces.items ≡ evaluate (step_texts steps.entry.items) []) }
 {
     let mut left = steps;
     let mut pieces = Vec::new(alloc);

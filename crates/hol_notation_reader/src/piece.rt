@@ -391,7 +391,7 @@ pub(crate) fn pop_command(pieces: &mut Vec<Piece<'_>>) -> Command
 /// Puts a piece on top.
 #[tactic(auto, using(crate::proofs::Pieces::pushed))]
 pub(crate) fn push<'t>(pieces: &mut Vec<Piece<'t>>, piece: Piece<'t>) -> Result<(), AllocError>
-    ensures { IfOk result (λ _. pieces_of pieces.new.items ≡ piece_of piece ∷ pieces_of pieces.old.items) }
+    ensures { IfOk result (λ _. pieces_of pieces.new.items ≡ piece_of piece.entry ∷ pieces_of pieces.old.items) }
 {
     Ok(pieces.push(piece)?)
 }

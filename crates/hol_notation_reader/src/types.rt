@@ -15,7 +15,7 @@ use std::alloc::{AllocError, Global};
 
 // The constructors applied to the type, the last of the list first.
 fn postfix(alloc: Global, ty: PreType, names: Vec<&str>) -> Result<PreType, AllocError>
-    ensures { IfOk result (λ built. built ≡ postfix ty (reverse (name_texts names.items))) }
+    ensures { IfOk result (λ built. built ≡ postfix ty (reverse (name_texts names.entry.items))) }
 {
     let mut built = ty;
     let mut left = names;
@@ -35,7 +35,7 @@ fn listed(
     others: Vec<PreType>,
     names: Vec<&str>,
 ) -> Result<PreType, AllocError>
-    ensures { IfOk result (λ built. built ≡ listed first (reverse others.items) (reverse (name_texts names.items))) }
+    ensures { IfOk result (λ built. built ≡ listed first (reverse others.items) (reverse (name_texts names.entry.items))) }
 {
     if others.is_empty() {
         return postfix(alloc, first, names);

@@ -1,4 +1,4 @@
-use Rattle.std.proofs.Common.{◌≡◌, ◌∙◌, ◌-◌, sym, ap, List}
+use Rattle.std.proofs.Common.{◌∙◌, ◌-◌, sym, ap, List}
 use Rattle.hol_notation_grammar.specs.declared.grammar.Production.TheVariants.{OpenGoal}
 use Rattle.hol_notation_grammar.specs.declared.grammar.Symbol.{Symbol}
 use Rattle.hol_notation_grammar.specs.Grammar.{language, leads, begins}

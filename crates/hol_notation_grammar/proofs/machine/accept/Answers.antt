@@ -1,4 +1,4 @@
-use Rattle.std.proofs.Common.{◌≡◌, ◌∷◌, ◌∙◌, sym, reverse, Some}
+use Rattle.std.proofs.Common.{◌∷◌, ◌∙◌, sym, reverse, Some}
 use Rattle.hol_notation_tokens.specs.Lexeme.{seen}
 use Rattle.hol_notation_grammar.specs.Step.{step_texts}
 use Rattle.hol_notation_grammar.proofs.Steps.{omits_some, omits_none, accepts_taken, accepts_none, accepts_over}

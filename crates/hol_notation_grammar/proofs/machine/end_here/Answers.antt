@@ -1,4 +1,4 @@
-use Rattle.std.proofs.Common.{◌≡◌, reverse, None}
+use Rattle.std.proofs.Common.{reverse, None}
 use Rattle.hol_notation_grammar.specs.Step.{step_texts}
 use Rattle.hol_notation_grammar.proofs.Steps.{omits_some, omits_none, ends_there, ends_not}
 use Rattle.hol_notation_grammar.proofs.machine.end_here.Goals as goal

@@ -1,10 +1,10 @@
-use Rattle.std.proofs.Common.{◌≡◌, ◌∙◌, ◌≤◌, ◌++◌, ◌∷◌, [], List, sym, ap, refl, reverse, map, length}
+use Rattle.std.proofs.Common.{◌∙◌, ◌≤◌, ◌++◌, ◌∷◌, [], List, ap, reverse, map, length}
 use Rattle.std.proofs.lemmas.List.{length-map}
 use Rattle.hol_notation_tokens.specs.Lexeme.{seen}
 use Rattle.hol_notation_grammar.specs.declared.grammar.Symbol.{Symbol}
 use Rattle.hol_notation_grammar.specs.declared.grammar.Symbol.TheVariants.{Part}
 use Rattle.hol_notation_grammar.specs.Step.{step_texts, name_texts}
-use Rattle.hol_notation_grammar.proofs.Words.{read_start, word_refused, word_taken, end_refused, text_read}
+use Rattle.hol_notation_grammar.proofs.Words.{read_start, word_refused, word_taken, end_refused}
 use Rattle.hol_notation_grammar.proofs.machine.read.Goals as goal
 
 pub loop-word-init : goal.loop-word-init
