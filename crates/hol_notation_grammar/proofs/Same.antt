@@ -1,12 +1,12 @@
 -- A text has one tree.
-use Rattle.std.proofs.Common.{◌≡◌, Bool, true, false, List, [], ◌∷◌, ◌++◌, refl, ap, ◌∙◌, sym, subst}
+use Rattle.std.proofs.Common.{◌≡◌, true, List, [], ◌∷◌, refl, ◌∙◌, sym, subst}
 use Rattle.hol_notation_tokens.specs.Lexeme.{Lexeme}
 use Rattle.hol_notation_grammar.specs.declared.grammar.Rule.{Rule}
 use Rattle.hol_notation_grammar.specs.declared.grammar.Production.{Production}
 use Rattle.hol_notation_grammar.specs.declared.grammar.Symbol.{Symbol}
 use Rattle.hol_notation_grammar.specs.declared.grammar.Symbol.TheVariants.{Token, Part}
 use Rattle.hol_notation_grammar.specs.Sort.{sort_of}
-use Rattle.hol_notation_grammar.specs.Grammar.{Grammar, language, Tree, node, Trees, done, leaf, tree, then, all_then, Stands, AllStand, opens, IsAmong, WhereEmpty, IsNotNext}
+use Rattle.hol_notation_grammar.specs.Grammar.{Grammar, language, Tree, node, Trees, done, leaf, tree, then, all_then, Stands, AllStand, WhereEmpty, IsNotNext}
 use Rattle.hol_notation_grammar.proofs.Leads.{Certain, leading, trees_first, opens_by}
 use Rattle.hol_notation_grammar.proofs.Paths.{not_both, not_empty, empty_trees}
 use Rattle.hol_notation_grammar.proofs.Certain.{certain}
