@@ -1,15 +1,19 @@
 -- The steps of a tree give what it says.
-use Rattle.std.proofs.Common.{◌≡◌, ◌⊎◌, inl, inr, List, [], ◌∷◌, ◌++◌, refl, ap, ◌∙◌, sym, subst, length, take, drop, append_assoc, suc, ℕ}
-use Rattle.std.proofs.lemmas.List.{take_at, drop_at, append-nil}
-use Rattle.hol_notation_tokens.specs.Lexeme.{Lexeme}
+use Rattle.std.proofs.Common.{◌≡◌, inl, inr, List, [], ◌∷◌, ◌++◌, refl, ap, ◌∙◌, sym, subst, length, drop, append_assoc, suc}
+use Rattle.std.proofs.lemmas.List.{take_at, drop_at, append-nil, map-append}
+use Rattle.hol_notation_tokens.specs.declared.lexer.Word.{Word}
+use Rattle.hol_notation_tokens.specs.Lexeme.{Lexeme, seen}
 use Rattle.hol_notation_grammar.specs.declared.grammar.Class.{Class}
 use Rattle.hol_notation_grammar.specs.declared.grammar.Rule.{Rule}
 use Rattle.hol_notation_grammar.specs.declared.grammar.Rule.TheVariants as rule
 use Rattle.hol_notation_grammar.specs.declared.grammar.Production.{Production}
 use Rattle.hol_notation_grammar.specs.declared.grammar.Symbol.{Symbol}
 use Rattle.hol_notation_grammar.specs.declared.grammar.Symbol.TheVariants.{Token, Part}
+use Rattle.hol_notation_grammar.specs.declared.machine.Step.{Step}
+use Rattle.hol_notation_grammar.specs.declared.machine.Step.TheVariants.{Choose, Take}
+use Rattle.hol_notation_grammar.specs.Step.{step_text, step_texts}
 use Rattle.hol_notation_grammar.specs.Table.{productions, symbols}
-use Rattle.hol_notation_grammar.specs.Grammar.{language, Tree, node, Trees, done, leaf, tree, then, all_then, IsAmong, Stands, AllStand, StepText, choose, take as taken, steps, all_steps}
+use Rattle.hol_notation_grammar.specs.Grammar.{language, Tree, node, Trees, done, leaf, tree, all_then, IsAmong, Stands, AllStand, StepText, choose, take as taken, steps, all_steps}
 use Rattle.hol_notation_reader.specs.Piece.{PieceText, a_word, Form, form, form_of, AreOf, IsFirst}
 use Rattle.hol_notation_reader.specs.Build.{build, reduced}
 use Rattle.hol_notation_reader.specs.Value.{value, values}
@@ -177,6 +181,35 @@ pub chosen_parts : (es : List StepText) (p : Production) (vs : List PieceText) �
 chosen_parts [] p vs f = f.0
 chosen_parts (choose q ∷ es) p vs f = chosen_parts es p vs f.1
 chosen_parts (taken d y ∷ es) p vs f = chosen_parts es p vs f
+
+-- the steps before the last
+before_last : (left more : List Step) (s : Step) (e : StepText) → left ≡ more ++ s ∷ [] → step_text s ≡ e → step_texts left ≡ step_texts more ++ e ∷ []
+before_last left more s e w h = ap (λ (l : List Step). step_texts l) w ∙ map-append step_text more (s ∷ []) ∙ ap (λ (x : StepText). step_texts more ++ x ∷ []) h
+
+-- what is left of the fold
+abbrev pub Leaves : List StepText → List PieceText → List PieceText → Type 0
+Leaves es vs all = (evaluate es vs ≡ all) × Fit es vs
+
+pub after_word : (left more : List Step) (s : Step) (c : Class) (w : Word) (vs us all : List PieceText) → left ≡ more ++ s ∷ [] → s ≡ Take c w → us ≡ a_word (seen w) ∷ vs → Leaves (step_texts left) vs all
+    → Leaves (step_texts more) us all
+after_word left more s c w vs us all e i j h =
+    let l : step_texts left ≡ step_texts more ++ taken c (seen w) ∷ [] = before_last left more s (taken c (seen w)) e (ap step_text i) in
+    (
+      ap (evaluate (step_texts more)) j ∙ sym (last_taken (step_texts more) c (seen w) vs) ∙ ap (λ (es : List StepText). evaluate es vs) (sym l) ∙ h.0,
+      subst (Fit (step_texts more)) (sym j) (taken_fits (step_texts more) c (seen w) vs (subst (λ (es : List StepText). Fit es vs) l h.1))
+    )
+
+pub after_production : (left more : List Step) (s : Step) (p : Production) (vs us all : List PieceText) → left ≡ more ++ s ∷ [] → s ≡ Choose p → us ≡ reduced p vs → Leaves (step_texts left) vs all
+    → Leaves (step_texts more) us all
+after_production left more s p vs us all e i j h =
+    let l : step_texts left ≡ step_texts more ++ choose p ∷ [] = before_last left more s (choose p) e (ap step_text i) in
+    (
+      ap (evaluate (step_texts more)) j ∙ sym (last_chosen (step_texts more) p vs) ∙ ap (λ (es : List StepText). evaluate es vs) (sym l) ∙ h.0,
+      subst (Fit (step_texts more)) (sym j) (chosen_fits (step_texts more) p vs (subst (λ (es : List StepText). Fit es vs) l h.1))
+    )
+
+pub parts_there : (left more : List Step) (s : Step) (p : Production) (vs : List PieceText) → left ≡ more ++ s ∷ [] → s ≡ Choose p → Fit (step_texts left) vs → AreOf (symbols p) vs
+parts_there left more s p vs e i fit = chosen_parts (step_texts more) p vs (subst (λ (es : List StepText). Fit es vs) (before_last left more s (choose p) e (ap step_text i)) fit)
 
 -- of a text that was read
 pub text_fits : (n : Rule) (words : List Lexeme) (es : List StepText) → IsText language n words es → Fit es []
