@@ -13,7 +13,7 @@ pop_command-requires c = built_first rule.Command (map seen c.args.words.now) (p
 
 pub returns-in_err-pieces : goal.returns-in_err-pieces
 returns-in_err-pieces c =
-    let p = err_from_is_err_and c.from_residual-in_err-pieces.result c.from_residual-in_err-pieces.ensures.1 in
+    let p = err_from_is_err_and c.from_residual.result c.from_residual.ensures.1 in
     rw (p.1, p.2) (answer_err c.args.end (map seen c.args.words.now) c.in_err-pieces.field-0.0 c.in_err-pieces.ensures)
 
 pub returns : goal.returns
