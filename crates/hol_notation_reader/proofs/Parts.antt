@@ -26,8 +26,12 @@ first_word : (c : Class) (ss : List Symbol) (vs : List PieceText) → AreOf (Tok
 first_word c ss [] a = absurd a
 first_word c ss (v ∷ vs) a = a.0
 
+abbrev behind : List Symbol
+behind = Part rule.EqualsTail ∷ Part rule.AndTail ∷ Part rule.OrTail ∷ Part rule.ImpliesTail ∷ Part rule.IffTail ∷ Token class.Close ∷ []
+
 -- the parenthesis behind what the binder of a lambda binds, and infixes
 pub close_next : (x y : PieceText) (us vs ws ts : List PieceText) → us ≡ x ∷ vs → vs ≡ y ∷ ws → ts ≡ drop 5 ws → AreOf (symbols LambdaInside) us → IsFirst of_word ts
 close_next x y us vs ws ts e f g a =
-    let b = parts_after (Part rule.Bound) _ y vs ws f (parts_after (Token class.Lambda) _ x us vs e a) in
-    subst (IsFirst of_word) (sym g) (first_word class.Close [] (drop 5 ws) (parts_dropped 5 _ ws b))
+    let b : AreOf (Part rule.Bound ∷ behind) vs = parts_after (Token class.Lambda) (Part rule.Bound ∷ behind) x us vs e a in
+    let c : AreOf behind ws = parts_after (Part rule.Bound) behind y vs ws f b in
+    subst (IsFirst of_word) (sym g) (first_word class.Close [] (drop 5 ws) (parts_dropped 5 behind ws c))
