@@ -1,5 +1,5 @@
 -- The list of pieces as what they stand for.
-use Rattle.std.proofs.Common.{◌≡◌, List, [], ◌∷◌, ◌++◌, refl, ap, ◌∙◌, map, reverse}
+use Rattle.std.proofs.Common.{◌≡◌, List, [], ◌∷◌, ◌++◌, ap, ◌∙◌, map, reverse}
 use Rattle.std.proofs.lemmas.List.{map-append, reverse-append}
 use Rattle.hol_notation_reader.specs.declared.piece.Piece.{Piece}
 use Rattle.hol_notation_reader.specs.Piece.{PieceText}

@@ -1,5 +1,5 @@
 -- From what is known of the words to what is known of the text.
-use Rattle.std.proofs.Common.{◌≡◌, ◌<◌, ◌≤◌, ◌+◌, ℕ, List, [], ◌∷◌, ◌++◌, refl, ap, ◌∙◌, sym, subst, append_assoc, append-nil, Ok, Err, Some, None, Option, option_map, length, map, arith}
+use Rattle.std.proofs.Common.{◌≡◌, ◌<◌, ◌≤◌, ◌+◌, ℕ, List, [], ◌∷◌, ◌++◌, refl, ap, ◌∙◌, sym, subst, append_assoc, append-nil, Err, Some, None, Option, option_map, length, map, arith}
 use Rattle.hol_notation_tokens.specs.declared.token.Kind.{Kind}
 use Rattle.hol_notation_tokens.specs.declared.token.Token.{Token}
 use Rattle.hol_notation_tokens.specs.declared.lexer.Word.{Word}
@@ -14,8 +14,8 @@ use Rattle.std.proofs.lemmas.List.{map-append}
 use Rattle.hol_notation_tokens.proofs.Tokens.{none_not_some, some_same}
 use Rattle.hol_notation_tokens.proofs.OneLexing.{token_within}
 use Rattle.hol_notation_grammar.specs.declared.grammar.Rule.TheVariants as rule
-use Rattle.hol_notation_grammar.specs.Grammar.{language, Tree, then, Stands, StepText, steps, named, AreNew}
-use Rattle.hol_notation_grammar.specs.Reading.{IsText, IsStuck, IsNext, Stops, Fails, first, place_at}
+use Rattle.hol_notation_grammar.specs.Grammar.{language}
+use Rattle.hol_notation_grammar.specs.Reading.{IsStuck, Stops, Fails, first, place_at}
 use Rattle.hol_notation_reader.specs.Piece.{the_command}
 use Rattle.hol_notation_reader.specs.Value.{value}
 

@@ -193,19 +193,17 @@ Leaves es vs all = (evaluate es vs ≡ all) × Fit es vs
 pub after_word : (left more : List Step) (s : Step) (c : Class) (w : Word) (vs us all : List PieceText) → left ≡ more ++ s ∷ [] → s ≡ Take c w → us ≡ a_word (seen w) ∷ vs → Leaves (step_texts left) vs all
     → Leaves (step_texts more) us all
 after_word left more s c w vs us all e i j h =
-    let l : step_texts left ≡ step_texts more ++ taken c (seen w) ∷ [] = before_last left more s (taken c (seen w)) e (ap step_text i) in
-    (
+    let l : step_texts left ≡ step_texts more ++ taken c (seen w) ∷ [] = before_last left more s (taken c (seen w)) e (ap step_text i) in (
       ap (evaluate (step_texts more)) j ∙ sym (last_taken (step_texts more) c (seen w) vs) ∙ ap (λ (es : List StepText). evaluate es vs) (sym l) ∙ h.0,
-      subst (Fit (step_texts more)) (sym j) (taken_fits (step_texts more) c (seen w) vs (subst (λ (es : List StepText). Fit es vs) l h.1))
+      subst (Fit (step_texts more)) (sym j) (taken_fits (step_texts more) c (seen w) vs (subst (λ (es : List StepText). Fit es vs) l h.1)),
     )
 
 pub after_production : (left more : List Step) (s : Step) (p : Production) (vs us all : List PieceText) → left ≡ more ++ s ∷ [] → s ≡ Choose p → us ≡ reduced p vs → Leaves (step_texts left) vs all
     → Leaves (step_texts more) us all
 after_production left more s p vs us all e i j h =
-    let l : step_texts left ≡ step_texts more ++ choose p ∷ [] = before_last left more s (choose p) e (ap step_text i) in
-    (
+    let l : step_texts left ≡ step_texts more ++ choose p ∷ [] = before_last left more s (choose p) e (ap step_text i) in (
       ap (evaluate (step_texts more)) j ∙ sym (last_chosen (step_texts more) p vs) ∙ ap (λ (es : List StepText). evaluate es vs) (sym l) ∙ h.0,
-      subst (Fit (step_texts more)) (sym j) (chosen_fits (step_texts more) p vs (subst (λ (es : List StepText). Fit es vs) l h.1))
+      subst (Fit (step_texts more)) (sym j) (chosen_fits (step_texts more) p vs (subst (λ (es : List StepText). Fit es vs) l h.1)),
     )
 
 pub parts_there : (left more : List Step) (s : Step) (p : Production) (vs : List PieceText) → left ≡ more ++ s ∷ [] → s ≡ Choose p → Fit (step_texts left) vs → AreOf (symbols p) vs

@@ -8,13 +8,13 @@ use Rattle.hol_notation_grammar.specs.declared.grammar.Production.TheVariants.{O
 use Rattle.hol_notation_grammar.specs.Table.{symbols}
 use Rattle.hol_notation_terms.specs.declared.operator.Operator.{Operator}
 use Rattle.hol_notation_terms.specs.declared.operator.Operator.TheVariants as operator
-use Rattle.hol_notation_terms.specs.Text.{TypeText, Ident, Arrow, no_types, more_types, type_texts, VariableText, TermText, RightSideText}
+use Rattle.hol_notation_terms.specs.Text.{TypeText, Ident, Arrow, no_types, more_types, type_texts, VariableText, TermText}
 use Rattle.hol_notation_terms.specs.Text as text
 use Rattle.hol_notation_tactics.specs.Text.{CallText, TacText, tac_texts}
 use Rattle.hol_notation_tactics.specs.Text as tactic
-use Rattle.hol_notation_commands.specs.Text.{CommandText, Local, Direct}
+use Rattle.hol_notation_commands.specs.Text.{Local, Direct}
 use Rattle.hol_notation_commands.specs.Text as command
-use Rattle.hol_notation_reader.specs.Piece.{SideText, ThenText, one, each, PieceText, a_word, a_type, maybe_type, type_names, type_list, a_term, maybe_term, some_terms, bound, after_name, after_not, after_binder, a_quotation, a_type_quotation, a_right_side, some_parameters, a_definition, a_theorem, some_theorems, a_pair, some_pairs, an_argument, some_arguments, a_call, a_tactic, maybe_tactic, some_tactics, some_steps, a_command, at, the_word, the_text, the_type, type_if_any, names_in, types_in, the_term, term_if_any, terms_in, variables_in, annotation_in, sides_in, bound_if_any, the_quotation, the_type_quotation, the_right_side, the_definition, the_theorem, theorems_in, the_pair, pairs_in, the_argument, arguments_in, the_call, the_tactic, tactic_if_any, tactics_in, steps_in, the_command}
+use Rattle.hol_notation_reader.specs.Piece.{SideText, ThenText, one, each, PieceText, a_type, maybe_type, type_names, type_list, a_term, maybe_term, some_terms, bound, after_name, after_not, after_binder, a_quotation, a_type_quotation, a_right_side, some_parameters, a_definition, a_theorem, some_theorems, a_pair, some_pairs, an_argument, some_arguments, a_call, a_tactic, maybe_tactic, some_tactics, some_steps, a_command, at, the_word, the_text, the_type, type_if_any, names_in, types_in, the_term, term_if_any, terms_in, variables_in, annotation_in, sides_in, bound_if_any, the_quotation, the_type_quotation, the_right_side, the_definition, the_theorem, theorems_in, the_pair, pairs_in, the_argument, arguments_in, the_call, the_tactic, tactic_if_any, tactics_in, steps_in}
 
 -- constructors behind a type
 abbrev pub postfix : TypeText → List (List ℕ) → TypeText

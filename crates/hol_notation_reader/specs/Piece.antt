@@ -1,14 +1,11 @@
 -- What is built of what is written: of a token, and of each rule.
-use Rattle.std.specs.Prelude.{◌≡◌, ℕ, zero, suc, List, [], ◌∷◌, Option, None, Bool, false}
+use Rattle.std.specs.Prelude.{◌≡◌, ℕ, zero, suc, List, [], ◌∷◌, Option, None, false}
 use Rattle.hol_notation_tokens.specs.declared.token.Kind.TheVariants.{Ident as IdentKind}
 use Rattle.hol_notation_tokens.specs.Lexeme.{Lexeme}
-use Rattle.hol_notation_grammar.specs.declared.grammar.Class.{Class}
 use Rattle.hol_notation_grammar.specs.declared.grammar.Rule.{Rule}
 use Rattle.hol_notation_grammar.specs.declared.grammar.Rule.TheVariants as rule
-use Rattle.hol_notation_grammar.specs.declared.grammar.Production.{Production}
 use Rattle.hol_notation_grammar.specs.declared.grammar.Symbol.{Symbol}
 use Rattle.hol_notation_grammar.specs.declared.grammar.Symbol.TheVariants.{Token, Part}
-use Rattle.hol_notation_grammar.specs.Table.{symbols}
 use Rattle.hol_notation_terms.specs.declared.operator.Operator.{Operator}
 use Rattle.hol_notation_terms.specs.Text.{TypeText, Ident, VariableText, TermText, Named, QuotationText, TypeQuotationText, RightSideText, DefinitionText}
 use Rattle.hol_notation_tactics.specs.Text.{TypePairText, ThmText, Cited, ArgumentText, Theorem, CallText, TacText, Call}

@@ -1,10 +1,9 @@
 -- What the code's pieces stand for.
-use Rattle.std.specs.Prelude.{ℕ, List, map, reverse, option_map}
+use Rattle.std.specs.Prelude.{List, map, reverse, option_map}
 use Rattle.std.specs.Global.{Vec}
 use Rattle.hol_notation_tokens.specs.Lexeme.{seen}
 use Rattle.hol_notation_grammar.specs.Step.{name_texts}
 use Rattle.hol_notation_terms.specs.Text.{VariableText, TermText}
-use Rattle.hol_notation_tactics.specs.Text.{TacText}
 use Rattle.hol_notation_reader.specs.declared.piece.Side.{Side}
 use Rattle.hol_notation_reader.specs.declared.piece.ThenStep.{ThenStep}
 use Rattle.hol_notation_reader.specs.declared.piece.ThenStep.TheVariants.{One, Each}
