@@ -71,10 +71,10 @@ def needed():
     rules = found(r'ForwardRule::\w+ => "(\w+)"', "src/forward_rule.rt", 8)
     for rule in rules:
         yield from [Need(rule, 13), Need(rule, 14)]
-    for word in found(r'"(\w+)" => Lead::', "src/lead.rt", 21):
+    for word in found(r'"([A-Z]\w+)" => Sort::', "src/sort.rt", 21):
         if word not in rules:
             yield from [Need(word, number) for number in (13, 17, 18, *((6,) if word in HANDING else ()))]
-    for word in found(r'"(\w+)" => CommandWord::', "src/word.rt", 12):
+    for word in found(r'"([a-z]\w*)" => Sort::', "src/sort.rt", 13):
         yield from [Need(word, number) for number in COMMANDS.get(word, (1,))]
     for op in found(r'"(\w+)" => (?:\w+\(value\)|Some\(Request::\w+\)),', "src/reading.rt", 9):
         yield from [Need(op, f"error {number}") for number in REQUESTS.get(op, (3,))]

@@ -84,3 +84,22 @@ fn types_are_matched(rt: HostRuntime) -> Result<(), Fail> {
     assert!(rt; are_types_matched(written.alloc, &terms)?);
     Ok(())
 }
+
+// Whether the type that is written so leads from the type of the first to that of the second.
+fn is_read(written: &Written, text: &str, terms: &[Term]) -> Result<bool, Fail> {
+    match terms {
+        [x, y] => {
+            let ty = Ty::fun(written.alloc, x.type_of(), y.type_of())?;
+            Ok(written.ty(text)?.same(&ty))
+        }
+        _ => Ok(false),
+    }
+}
+
+#[test]
+fn types_are_read(rt: HostRuntime) -> Result<(), Fail> {
+    let written = Written::new(rt.alloc())?;
+    let terms = written.terms("x:A, p:bool")?;
+    assert!(rt; is_read(&written, "A->bool", &terms)?);
+    Ok(())
+}

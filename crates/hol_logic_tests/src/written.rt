@@ -1,7 +1,7 @@
 //! Terms for tests, as they are written.
-use hol_infer::elaborate;
+use hol_infer::{elaborate, elaborate_type};
 use hol_kernel::{prelude_constants, prelude_types};
-use hol_notation_reader::read_term;
+use hol_notation_reader::{read_term, read_type};
 use hol_notation_terms::PreTerm;
 use hol_notation_tokens::scan;
 use hol_terms::Term;
@@ -32,6 +32,13 @@ impl Written {
     fn read(&self, text: &str) -> Result<PreTerm, Fail> {
         let (words, end) = scan(self.alloc, text)?;
         Ok(read_term(self.alloc, &words, end)?)
+    }
+
+    /// The type that is written so.
+    pub(crate) fn ty(&self, text: &str) -> Result<Ty, Fail> {
+        let (words, end) = scan(self.alloc, text)?;
+        let written = read_type(self.alloc, &words, end)?;
+        Ok(elaborate_type(self.alloc, &written, &self.types)?)
     }
 
     /// The term that is written so.
