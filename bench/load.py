@@ -240,12 +240,15 @@ class Watch:
         return found
 
     def seconds(self):
-        """The processor time that the threads of the processes have had, and what these have started and that has ended."""
-        total = 0.0
+        """How long the threads of the processes have had a processor, with what these have started and that has ended; and how long they had to wait for one,
+        which is what other work on this machine costs."""
+        had, waited = 0.0, 0.0
         for process in self.tree():
-            total += sum(int((told("/proc/%d/task/%s/schedstat" % (process, task)) or "0").split()[0]) for task in listed("/proc/%d/task" % process)) / 1e9
-            total += sum(map(int, told("/proc/%d/stat" % process).rpartition(")")[2].split()[13:15])) / os.sysconf("SC_CLK_TCK")
-        return total
+            told_of = [told("/proc/%d/task/%s/schedstat" % (process, task)).split() for task in listed("/proc/%d/task" % process)]
+            ended = told("/proc/%d/stat" % process).rpartition(")")[2].split()[13:15]
+            had += sum(int(one[0]) for one in told_of if one) / 1e9 + sum(map(int, ended)) / os.sysconf("SC_CLK_TCK")
+            waited += sum(int(one[1]) for one in told_of if one) / 1e9
+        return had, waited
 
     def now(self):
         """How many processes there are, how many files the server has open, and the megabytes of all and of the server alone."""

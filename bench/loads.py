@@ -38,7 +38,7 @@ HOSTILE, PROXIED, LOST = 3, 40, 10
 MEGABYTES = 8 * 1024
 PAGE_TIME, KEY_TIME = 40, 10
 """What a page that begins and a key may take of the processors, in milliseconds: by the latter 200 pages that type a key every two seconds keep one processor
-busy. Other work on the machine changes these little."""
+busy. Other work on the machine changes these little; how long is waited for a processor is told beside them."""
 SECONDS = 60
 FRONT = """
 defaults
@@ -130,8 +130,10 @@ def typing(pages, hostile):
     yield "a page begins, median ms", middle(measured.begun), load.BEGINS
     yield "a key to its goals, median ms", middle(measured.keys), load.MEDIAN
     yield "a key to its goals, 99 % ms", at(measured.keys, 0.99), load.LATEST
-    yield "processor ms of a page that begins", measured.a_page(), PAGE_TIME
-    yield "processor ms of a key", measured.a_key(), KEY_TIME
+    (page, page_waits), (key, key_waits) = measured.a_page(), measured.a_key()
+    yield "processor ms of a page that begins", page, PAGE_TIME
+    yield "processor ms of a key", key, KEY_TIME
+    print("for a processor waited, of the server's: a page that begins %.0f ms, a key %.0f ms" % (page_waits, key_waits), flush=True)
     yield "keys a page and minute", -len(measured.keys) * 60 / KEYS_SECONDS / pages, -25
 
 
@@ -188,12 +190,12 @@ class Timed(load.Class):
         self.typed = len(self.keys)
 
     def a_page(self):
-        """Milliseconds of the processor that a page has until its goals are there."""
-        return 1000 * (self.seconds[1] - self.seconds[0]) / self.given.sessions
+        """Milliseconds for which a page has a processor until its goals are there, and for which it waits for one."""
+        return [1000 * (after - before) / self.given.sessions for before, after in zip(*self.seconds[:2])]
 
     def a_key(self):
         """Those of a key."""
-        return 1000 * (self.seconds[2] - self.seconds[1]) / max(1, self.typed)
+        return [1000 * (after - before) / max(1, self.typed) for before, after in zip(*self.seconds[1:])]
 
 
 class Returning(load.Class):
