@@ -1,11 +1,13 @@
 """The page in headless Chromium, where that is installed."""
 
+import base64
 import json
 import pathlib
 import random
 import subprocess
 import sys
 import unittest
+import zlib
 
 from tests import browser
 from tests.helpers import BUILT, CLIENTS, PYTHON, ROOT, fake, proofs
@@ -202,6 +204,16 @@ class Editing(InBrowser):
         self.assertEqual(self.page.value("window.page.theories.map(({ name }) => name)")[-3:], ["Theory1", "Theory2", "Theory3"])
         for hash in ("#theory=A.x&theory=B.!", "#theory=", "#x", link[link.index("#"):] + "&theory=A.%"):
             self.assertEqual(self.page.value("import('/store.js').then(({ linked }) => linked(%s))" % json.dumps(hash)), [])
+
+    def test_a_short_link_that_holds_much_is_none(self):
+        """A thousand letters of it would be unpacked to megabytes, and kept."""
+        shown = self.open()
+        for length, is_one in ((399_000, True), (400_001, False), (200_000_000, False)):
+            squeezed = zlib.compressobj(9, zlib.DEFLATED, -15)
+            data = b"".join(squeezed.compress(b"x" * min(length, 1_000_000)) for _ in range(max(1, length // 1_000_000))) + squeezed.flush()
+            hash = "#theory=A." + base64.urlsafe_b64encode(data).decode().rstrip("=")
+            found = shown.value("import('/store.js').then(async ({ linked }) => (await linked(%s)).map(({ text }) => text.length))" % json.dumps(hash))
+            self.assertEqual(found, [length] if is_one else [], length)
 
     def test_whatever_the_browser_has_kept_the_page_begins(self):
         shown = self.open()
