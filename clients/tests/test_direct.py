@@ -64,10 +64,11 @@ class Straight(unittest.TestCase):
                     continue
                 table, vocabulary = file.notation.table(number), file.notation.vocabulary_at(number - 1)
                 for part in written.text.split("`")[1::2]:
-                    straight += self.compare(part, table, vocabulary)
-                    every += 1
+                    if not part.lstrip().startswith(":"):  # Types are the reader's.
+                        straight += self.compare(part, table, vocabulary)
+                        every += 1
         self.assertGreater(every, 5_000)
-        self.assertGreater(straight, 0.95 * every)
+        self.assertGreater(straight, 0.98 * every)
 
     def test_random_terms_and_what_is_left_of_them(self):
         source, over = random_terms.Source(7), random_terms.table()
