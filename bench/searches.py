@@ -20,7 +20,7 @@ from holls.api import Project, Prover, Refused  # noqa: E402
 from search import search  # noqa: E402
 
 WANTED = 60
-GOALS, TRIES = 100, 12_000
+GOALS, TRIES, SECONDS = 100, 12_000, 60
 
 
 def chosen(project, number):
@@ -47,7 +47,7 @@ def main():
     words.add_argument("--tries", type=int, default=TRIES, help="so many steps are tried for each (%d)" % TRIES)
     words.add_argument("--jobs", type=int, default=1, help="so many side by side (1)")
     given = words.parse_args()
-    with Prover(given.program, processes=given.jobs, turns=300, seconds=5) as prover, concurrent.futures.ThreadPoolExecutor(given.jobs) as pool:
+    with Prover(given.program, processes=given.jobs, turns=300, seconds=SECONDS) as prover, concurrent.futures.ThreadPoolExecutor(given.jobs) as pool:
         project = Project(prover, str(HERE.parent / "theories"))
         pairs = chosen(project, given.goals)
         count = 0

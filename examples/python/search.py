@@ -4,7 +4,8 @@
     examples/python/search.py theories/lists.hol LENGTH_APPEND MAP_APPEND
 
 What is tried from a state are steps that may always help, and those that cite what its constants mean and the theorems that `premises` puts first; and
-later, if nothing better has come, those that theorems like it were proved by, and those that cite one theorem.
+later, if nothing better has come, those that theorems like it were proved by, the same with another theorem that is to this goal what the one they cite is
+to theirs, and those that cite one theorem.
 """
 
 import heapq
@@ -12,7 +13,7 @@ import math
 import pathlib
 import re
 import sys
-from collections import Counter
+from collections import Counter, defaultdict
 from functools import lru_cache
 
 sys.path.insert(0, str(pathlib.Path(__file__).resolve().parents[2] / "clients"))
@@ -41,7 +42,10 @@ OF_ATOM = "DISJ_CASES_TAC (SPEC `%s` EXCLUDED_MIDDLE) THEN ASM_REWRITE_TAC []"
 OF_CONDITION = "DISJ_CASES_TAC (SPEC `%s` EXCLUDED_MIDDLE) THEN ASM_REWRITE_TAC [COND_CLAUSES; %s]"
 LATER, FEW, SECONDS = 60, 8, 2.0
 """What the steps that are tried later cost more; in how few theorems a constant stands whose definition is unfolded; how long a proof is looked for first."""
-WORD = re.compile(r"[A-Za-z_]\w+")
+RARE, MANY, ANALOGIES, SHORT = 3, 60, 2, 4
+"""By so many of its rarest words theorems are looked for, so many by each, and so many are tried in place of another; a short proof has so many commands."""
+WITNESSES = ("T", "F", "_0", "_1")
+WORD, INSTANCE = re.compile(r"[A-Za-z_]\w+"), re.compile(r"(\[`:[^`]*`,\s*)`:\w+`\]")
 
 
 def turns_back(statement):
@@ -73,17 +77,33 @@ def atoms(text):
 
 
 def conditions(text):
-    """The conditions of a statement's conditionals that have no brackets inside."""
-    return [part for part in dict.fromkeys(re.findall(r"COND \(([^()]*)\)", text)) if not re.search(r"[!?@.\\]", part)]
+    """The conditions of a statement's conditionals, without those that a binder is in."""
+    parts = dict.fromkeys(bracketed(text[begin.end():]) for begin in re.finditer(r"COND \(", text))
+    return [part for part in parts if not re.search(r"[!?@.\\]", part)]
+
+
+def bracketed(text):
+    """What stands before the bracket that closes one in front of a text."""
+    depth = 1
+    for at, letter in enumerate(text):
+        depth += {"(": 1, ")": -1}.get(letter, 0)
+        if not depth:
+            return text[:at]
+    return text
 
 
 class Library:
     """The theorems that may be cited, by their words."""
 
     def __init__(self, theory):
+        self.theory = theory
         self.equations = [one for one in theory.known if re.search(" <?=>? ", one.statement) and not turns_back(one.statement)]
         self.words = {one.name: frozenset(WORD.findall(re.sub(r"[!?@\\][^.]*\.", " ", one.statement))) for one in theory.known}
         self.counts = Counter(word for words in self.words.values() for word in words)
+        self.having = defaultdict(list)
+        for name, words in self.words.items():
+            for word in words:
+                self.having[word].append(name)
 
     def weight(self, words):
         """How much words tell: rare ones more."""
@@ -95,6 +115,30 @@ class Library:
         likeness = {one.name: self.weight(self.words[one.name] & wanted) - 0.7 * self.weight(self.words[one.name] - wanted) for one in self.equations}
         found = sorted((one for one in self.equations if likeness[one.name] > 0), key=lambda one: -likeness[one.name])
         return [one.name for one in found if not one.name.endswith("_DEF") or self.counts[one.name[:-len("_DEF")]] < FEW][:most]
+
+    def nearest(self, wanted, most):
+        """The theorems that speak of what is wanted, and of little else, among those that have one of its rarest words."""
+        rare = sorted((word for word in wanted if self.counts[word]), key=lambda word: self.counts[word])[:RARE]
+        names = dict.fromkeys(name for word in rare for name in self.having[word][:MANY])
+        likeness = {name: self.weight(self.words[name] & wanted) - self.weight(self.words[name] - wanted) for name in names}
+        return sorted((name for name in names if likeness[name] > 0), key=lambda name: -likeness[name])[:most]
+
+    def by_analogy(self, text, like):
+        """The steps by which a theorem like a text was proved, if few, with another theorem in place of each that they cite: the one that is to the text what
+        that is to the theorem."""
+        own, script = frozenset(WORD.findall(text)), self.theory.script(like.name)
+        gone, new = self.words[like.name] - own, own - self.words[like.name]
+        steps = [command[2:] for command in script if command.startswith("e ")] if len(script) <= SHORT else []
+        for step, cited in [(step, word) for step in steps for word in dict.fromkeys(WORD.findall(step)) if self.words.get(word)]:
+            others = self.nearest((self.words[cited] - gone) | new, ANALOGIES)
+            yield from (one for other in others for one in instances(re.sub(r"\b%s\b" % cited, other, step)))
+
+
+def instances(step):
+    """A step, and where it takes a theorem at a type, the same for its other type variables."""
+    yield step
+    if INSTANCE.search(step):
+        yield from (INSTANCE.sub(lambda found: found.group(1) + "`:%s`]" % variable, step) for variable in "ABC")
 
 
 library = lru_cache(maxsize=64)(Library)
@@ -118,9 +162,10 @@ def steps(state):
     soon.update((form % typed(state.goal, each), 10) for form, mark in OF_ASSUMPTION.items() for each in state.goal.assumptions[:6] if mark in each)
     soon.update((OF_ATOM % typed(state.goal, each), 10) for each in atoms(state.goal.conclusion)[:4])
     soon.update((OF_CONDITION % (typed(state.goal, part), each), 10) for part in conditions(state.goal.conclusion)[:2] for each in lists[:2])
-    soon.update(("EXISTS_TAC `%s`" % variable, 10) for variable in state.goal.free if "?" in state.goal.conclusion)
+    soon.update(("EXISTS_TAC `%s`" % witness, 10) for witness in state.goal.free + WITNESSES if "?" in state.goal.conclusion)
     later = {form % (name, each): 0 for form in BY_INDUCTION for name in inductions for each in more + lists[4:]}
     later.update((command[2:], 10) for script in scripts for command in script[:4] if command.startswith("e "))
+    later.update((step, 10) for one in near[:20] for step in library(theory).by_analogy(state.goal.conclusion, one))
     later.update((form % each, 10) for form in OF_MANY for each in more)
     later.update((form % one.name, 10 + 10 * place) for place, form in enumerate(OF_ONE) for one in near[:12])
     return soon, {step: price for step, price in later.items() if step not in soon}
@@ -157,7 +202,7 @@ def search(first, most=MOST):
 
 def main():
     """Searches proofs of the named theorems of a file, each from its statement and what stands above it."""
-    with Prover(turns=300, seconds=0.5) as prover:
+    with Prover(turns=300) as prover:
         theory = Project(prover, sys.argv[1]).theory(pathlib.Path(sys.argv[1]).stem)
         for name in sys.argv[2:]:
             found = search(theory.proof(name).state)
