@@ -182,6 +182,9 @@ class Reading(unittest.TestCase):
         for digits, wanted in (([], ("c", "_0", num)), (["BIT1"], one), (["BIT1", "BIT0"], two),
                                (["BIT1", "BIT0", "BIT1"], ("a", ("c", "BIT1", typed.fun(num, num)), two))):
             self.assertEqual(self.translated(lambda made: made.term(numeral(digits))), wanted)
+        variable, tag = ("v", "n", num), ("c", "NUMERAL", typed.fun(num, num))
+        for untagged in (variable, ("a", ("c", "BIT0", typed.fun(num, num)), variable)):  # As in HOL Light's BIT0_THM.
+            self.assertEqual(self.translated(lambda made: made.term(("a", tag, untagged))), untagged)
         plus = self.translated(lambda made: made.term(("c", "+", typed.fun(num, typed.fun(num, num)))))
         self.assertEqual(plus[1], "add")
         self.assertEqual(neutral.variable_name("<<"), "R")

@@ -165,17 +165,17 @@ class Translator:
         return ("a", self.term(one), self.term(other))
 
     def _numeral(self, number: int) -> Term:
-        value, place = 0, 1
+        """What stands under HOL Light's tag NUMERAL, which there is none of here: digits are a numeral, and all else is itself."""
+        value, place, rest = 0, 1, number
         while True:
-            words = self.record.terms[number]
+            words = self.record.terms[rest]
             if words[:2] == ("c", "_0"):
-                break
+                return numerals.numeral(value)
             digit = self.record.terms[int(words[1])][1] if words[0] == "a" else ""
             if digit not in ("BIT0", "BIT1"):
-                raise Untranslatable("a numeral of other digits")
+                return self.term(number)
             value += place * (digit == "BIT1")
-            place, number = 2 * place, int(words[2])
-        return numerals.numeral(value)
+            place, rest = 2 * place, int(words[2])
 
     @staticmethod
     def _set(term: Term) -> Term:
