@@ -14,12 +14,10 @@ from tests import prover_goals, random_numbers
 from tests.helpers import BUILT
 
 SAMPLED = 4
-"""Each so many-th goal of a kind is searched."""
-SECONDS = 2.5
-"""So long a search may take here, half of what it gets elsewhere: what is found is found soon, and what isn't costs all of it."""
-MIDDLE, LATE = 0.75, 1.5
-"""Half of what is found is found in this part of the time that a search may take, and nearly all of it, with its `qed`, in that, whatever else the machine does.
-(prover_goals.py has narrower bounds.)"""
+"""Of goals that take long each so many-th is searched."""
+MIDDLE, LATE = 2 * prover_goals.MIDDLE_SECONDS, 2 * prover_goals.LATE_SECONDS
+"""In so many seconds of the processor half of what is found is found, and in so many 95 %, with its `qed`: twice what prover_goals.py asks for, since on a
+machine that does much else a second has less in it."""
 
 
 def chain(number):
@@ -119,19 +117,20 @@ class OverTheLibrary(unittest.TestCase):
         """The steps for a goal, which the program has accepted."""
         return self.library.prove(prover_goals.Stated("", [], text), False, seconds)
 
-    def searched(self, kind, is_named=False, seconds=SECONDS):
-        """That of a sample of a kind's goals the share is found that is wanted, half of it soon. (prover_goals.py searches them all.)"""
+    def searched(self, kind, is_named=False, every=1, first=0):
+        """That of a kind's goals, or of each so many-th, the share is found that is wanted, half of it soon, and nearly all of it."""
         share = next(one for one in prover_goals.SHARES if (one.kind, one.is_named) == (kind, is_named))
-        goals = [goal for goal in prover_goals.stored([kind])[::SAMPLED] if not is_named or self.library.has_named(goal)]
-        results = [self.library.prove(goal, is_named, seconds) for goal in goals]
+        goals = [goal for goal in prover_goals.stored([kind])[first::every] if not is_named or self.library.has_named(goal)]
+        results = [self.library.prove(goal, is_named) for goal in goals]
         told = prover_goals.of_share(share, results) + "".join("\n" + one.goal.text for one in results if not one.steps)
         self.assertGreaterEqual(sum(bool(one.steps) for one in results), share.least * len(results), told)
         middle, late = prover_goals.times(results)
-        self.assertLess(middle, MIDDLE * seconds, told)
-        self.assertLess(late, LATE * seconds, told)
+        self.assertLess(middle, MIDDLE, told)
+        self.assertLess(late, LATE, told)
 
-    def test_the_list_has_five_hundred_goals(self):
-        self.assertGreaterEqual(len(prover_goals.stored(("ARITH", "MESON", "SET", "SIMP"))), 500)
+    def test_five_hundred_goals_are_searched(self):
+        named = [goal for goal in prover_goals.stored(("MESON", "SIMP")) if self.library.has_named(goal)]
+        self.assertGreaterEqual(len(prover_goals.stored(("ARITH", "TAUT", "SET")) + named), 500)
 
     def test_arithmetic(self):
         self.searched("ARITH")
@@ -140,19 +139,25 @@ class OverTheLibrary(unittest.TestCase):
         self.searched("TAUT")
 
     def test_logic_with_what_is_named(self):
-        self.searched("MESON", True)
+        self.searched("MESON", True, 2)
+
+    def test_more_logic_with_what_is_named(self):
+        self.searched("MESON", True, 2, 1)
 
     def test_logic_with_nothing_named(self):
-        self.searched("MESON")
+        self.searched("MESON", False, SAMPLED)
 
     def test_sets(self):
         self.searched("SET")
 
     def test_simplifying_with_what_is_named(self):
-        self.searched("SIMP", True)
+        self.searched("SIMP", True, 2)
+
+    def test_more_simplifying_with_what_is_named(self):
+        self.searched("SIMP", True, 2, 1)
 
     def test_rewriting_with_what_is_named(self):
-        self.searched("REWRITE", True)
+        self.searched("REWRITE", True, SAMPLED)
 
     def test_sums_of_forty_parts_and_products(self):
         found = self.found(chain(40))

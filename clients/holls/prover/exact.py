@@ -7,16 +7,13 @@ from typing import Dict, Iterator, List, NamedTuple, Optional, Sequence, Tuple
 
 from holls.prover import patterns, typed
 from holls.prover.facts import Fact
-from holls.prover.patterns import LEFT, PREMISE, SPEC, Binding, Pattern
+from holls.prover.patterns import LEFT, PREMISE, SPEC, Binding, Key, Pattern
 from holls.prover.shown import Shown
 from holls.prover.typed import Term
 from holls.prover.writing import Quoter, Unwritable, type_text
 
 _MOST = 12
 """So many theorems are tried for a goal."""
-
-
-_Key = Tuple[Optional[str], Optional[str]]
 
 
 class Candidate(NamedTuple):
@@ -34,11 +31,11 @@ class Exact:
         self.quoter = quoter
         self._facts = {fact.name: fact for fact in facts}
         self._wholes: Dict[Optional[str], List[Fact]] = {}
-        self._heads: Dict[_Key, List[Tuple[str, Pattern]]] = {}
+        self._heads: Dict[Key, List[Tuple[str, Pattern]]] = {}
         for fact in facts:
             self._wholes.setdefault(fact.head, []).append(fact)
-            for pattern in fact.patterns:
-                self._heads.setdefault(_key(pattern.conclusion), []).append((fact.name, pattern))
+            for key, pattern in zip(fact.keys, fact.patterns):
+                self._heads.setdefault(key, []).append((fact.name, pattern))
 
     def whole(self, shown: Shown) -> List[str]:
         """Steps that close a goal as it stands, the short ones first."""
@@ -60,8 +57,7 @@ class Exact:
         for wanted, is_turned in ((goal, False), (turned, True)):
             if wanted is None:
                 continue
-            begin = _key(wanted)
-            for name, pattern in self._heads.get(begin, []) + (self._heads.get((begin[0], None), []) if begin[1] else []):
+            for name, pattern in itertools.chain.from_iterable(self._heads.get(key, ()) for key in patterns.keys(patterns.key(wanted))):
                 binding = Binding()
                 if pattern.path and binding.match(pattern.conclusion, wanted):
                     yield from self._used(name, pattern, binding, shown.assumptions, is_turned)
@@ -107,14 +103,6 @@ class Exact:
         binding.match(fact.term, goal)
         pairs = "; ".join("`:%s`,`:%s`" % (type_text(ty), variable) for variable, ty in sorted(binding.types.items()) if ty != variable)
         return "(INST_TYPE [%s] %s)" % (pairs, fact.name) if pairs else fact.name
-
-
-def _key(conclusion: Term) -> _Key:
-    """What a formula and its first argument begin with."""
-    first: Optional[Term] = None
-    while conclusion[0] == "a":
-        first, conclusion = conclusion[2], conclusion[1]
-    return patterns.head(conclusion), None if first is None else patterns.head(first)
 
 
 def _turned(goal: Term) -> Optional[Term]:

@@ -3,12 +3,14 @@
 from __future__ import annotations
 
 from functools import cached_property
-from typing import FrozenSet, List, Optional
+from typing import Dict, FrozenSet, List, Optional, Tuple
 
 from holls.prover import induction, patterns, typed
 from holls.prover.induction import Induction
-from holls.prover.patterns import Pattern
+from holls.prover.patterns import Key, Pattern
 from holls.prover.typed import Term
+
+Computed = Tuple[str, List[Tuple[int, str]]]
 
 
 class Fact:
@@ -16,11 +18,18 @@ class Fact:
 
     def __init__(self, name: str, term: Term) -> None:
         self.name, self.term = name, term
+        self.computed: Dict[FrozenSet[str], List[Optional[Computed]]] = {}
+        """Of each conclusion the function that it computes, and where constructors stand in it, by the constructors that there are."""
 
     @cached_property
     def patterns(self) -> List[Pattern]:
         """What it concludes."""
         return patterns.patterns(self.term)
+
+    @cached_property
+    def keys(self) -> List[Key]:
+        """What its conclusions and their arguments begin with."""
+        return [patterns.key(one.conclusion) for one in self.patterns]
 
     @cached_property
     def head(self) -> Optional[str]:

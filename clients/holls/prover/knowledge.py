@@ -7,6 +7,7 @@ from typing import Dict, FrozenSet, List, Optional, Sequence, Tuple
 
 from holls.prover import patterns, reading, scripts, typed
 from holls.prover.exact import Exact
+from holls.prover.facts import Computed
 from holls.prover.orders import Order
 from holls.prover.patterns import Pattern
 from holls.prover.premises import Premises
@@ -122,7 +123,9 @@ class Knowledge:
         each place one."""
         every: Dict[str, List[Tuple[int, str, FrozenSet[Tuple[int, str]]]]] = {}
         for fact in self.facts:
-            found = [_computed(pattern, constructors) for pattern in fact.patterns]
+            if constructors not in fact.computed:
+                fact.computed[constructors] = [_computed(pattern, constructors) for pattern in fact.patterns]
+            found = fact.computed[constructors]
             if found and None not in found and len({name for name, _ in found}) == 1:
                 covered = frozenset(place for _, places in found for place in places)
                 every.setdefault(found[0][0], []).append((-len(found), fact.name, covered))
@@ -199,7 +202,7 @@ class Knowledge:
         return list(found)
 
 
-def _computed(pattern: Pattern, constructors: FrozenSet[str]) -> Optional[Tuple[str, List[Tuple[int, str]]]]:
+def _computed(pattern: Pattern, constructors: FrozenSet[str]) -> Optional[Computed]:
     """The function of which an equation says what it is of what constructors build, and at which places these stand."""
     sides = typed.binary(pattern.conclusion)
     left = sides[1] if sides and sides[0] in ("=", "<=>") else typed.negated(pattern.conclusion) or pattern.conclusion

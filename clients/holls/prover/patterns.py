@@ -8,6 +8,7 @@ from holls.prover import typed
 from holls.prover.typed import Term, Type
 
 SPEC, PREMISE, LEFT, RIGHT = "spec", "premise", "left", "right"
+Key = Tuple[Optional[str], Optional[str], Optional[str]]
 _MOST_PATTERNS = 24
 """So many conjuncts of a theorem are taken."""
 
@@ -100,6 +101,21 @@ def head(term: Term) -> Optional[str]:
     while term[0] == "a":
         term = term[1]
     return term[1] if term[0] == "c" else None
+
+
+def key(conclusion: Term) -> Key:
+    """What a formula, its first argument and its last one begin with."""
+    last = conclusion[2] if conclusion[0] == "a" else None
+    first = last
+    while conclusion[0] == "a":
+        first, conclusion = conclusion[2], conclusion[1]
+    return head(conclusion), None if first is None else head(first), None if last is None else head(last)
+
+
+def keys(wanted: Key) -> List[Key]:
+    """The keys of conclusions that may match a formula with a key."""
+    begun, first, last = wanted
+    return [(begun, one, other) for one in dict.fromkeys((first, None)) for other in dict.fromkeys((last, None))]
 
 
 def rewritten(conclusion: Term) -> Term:
