@@ -87,7 +87,7 @@ class Neovim:
         while not holds():
             if time.monotonic() > end or self.process.poll() is not None:
                 raise AssertionError("it didn't come about")
-            time.sleep(0.02)
+            time.sleep(0.05)
 
     def type(self, text):
         for letter in text:
@@ -186,7 +186,7 @@ class Writing(unittest.TestCase):
         while person.look() != (goals, errors):
             if time.monotonic() > end:
                 self.assertEqual(person.look(), (goals, errors), typed)
-            time.sleep(0.02)
+            time.sleep(0.1)
 
     def judge(self, text):
         """What was written is accepted, and so is what it stands for in the program's own words, with the same theorems."""

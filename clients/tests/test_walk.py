@@ -117,12 +117,11 @@ class Walk:
 
 
 class EachReply(Walk):
-    """The same, where the program's replies are taken one by one, and behind each it is seen what would be published then of the file that was edited last,
-    whether or not it is due. (Of one that imports it, replies may come that were asked for before: what is published of these Walk sees.)"""
+    """The same, where the program's replies are taken one by one, and behind each it is seen what would be published then, whether or not it is due."""
 
     def __init__(self, *given):
-        self.known, self.new = {}, {}  # What there was to say of each file last, and what of it has come since the last edit.
-        self.number, self.did = 0, ("",)
+        self.known, self.new = {}, {}  # What there was to say of each file last, and what of it has come since the bridge took the last edit.
+        self.number, self.did = 0, ()
         super().__init__(*given)
 
     def take(self, event):
@@ -131,17 +130,14 @@ class EachReply(Walk):
                 self.bridge._hear([one])
             else:
                 self.bridge._take(one)
+                self.new, self.shown = {}, {}
             self.bridge._settle()
             self.look()
-
-    def tell(self, method, **params):
-        self.new = {}
-        super().tell(method, **params)
 
     def look(self):
         super().look()
         for uri, document in self.bridge.workspace.documents.items():
-            if document.version == self.versions.get(uri) and pathlib.PurePosixPath(uri).stem == self.did[0]:
+            if document.version == self.versions.get(uri):
                 now = {json.dumps(one, sort_keys=True) for one in features.diagnostics(document.file)}
                 self.gone += [(self.did, one) for one in self.new.get(uri, ()) if one not in now]
                 self.new[uri] = self.new.get(uri, set()) & now | now - self.known.get(uri, set())
@@ -168,7 +164,7 @@ class Walking(unittest.TestCase):
 
     @unittest.skipUnless(BUILT.is_file(), "hol_serve isn't built")
     def test_nothing_that_could_be_published_behind_a_reply_goes_away_by_itself(self):
-        self.assertGreater(sum(self.walk(str(BUILT), seed, 12, EachReply).number for seed in range(100, 104)), 300)
+        self.assertGreater(sum(self.walk(str(BUILT), seed, 10, EachReply).number for seed in range(103, 106)), 300)
 
     def test_nor_where_the_program_ends_now_and_then(self):
         with tempfile.TemporaryDirectory() as folder:
