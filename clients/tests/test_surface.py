@@ -26,7 +26,8 @@ from tests.helpers import BUILT, ROOT
 from tests.random_terms import VOCABULARY, plain, read
 
 TABLE = random_terms.table()
-STATEMENTS = [line.split("\t") for line in (pathlib.Path(__file__).parent / "hol_light_statements.tsv").read_text().splitlines()]
+STATEMENTS, DECLARED = ([line.split("\t") for line in (pathlib.Path(__file__).parent / name).read_text().splitlines()] for name in (
+    "hol_light_statements.tsv", "hol_light_declared.tsv"))
 
 READ = r"""
 m + n * p | add m (mult n p)
@@ -359,6 +360,13 @@ class HolLight(unittest.TestCase):
         vocabulary = View.of_all(theories()).vocabulary
         for _, statement in STATEMENTS:
             shown = Printer(TABLE, vocabulary).term(read(statement, TABLE, vocabulary))
+            self.assertEqual(re.sub(r"[\s()]", "", shown), re.sub(r"[\s()]", "", statement))
+
+    def test_more_of_them_are_read_and_printed_with_all_that_the_library_declares(self):
+        """Those of the same list with other operators, or of constants that the library hasn't, which are names as others then."""
+        view = View.of_all(theories())
+        for _, statement in DECLARED:
+            shown = Printer(view.table, view.vocabulary).term(read(statement, view.table, view.vocabulary))
             self.assertEqual(re.sub(r"[\s()]", "", shown), re.sub(r"[\s()]", "", statement))
 
     @unittest.skipUnless(BUILT.is_file(), "hol_serve isn't built")
