@@ -36,7 +36,7 @@ HOLLS = ROOT / "clients" / "bin" / "holls"
 KEYS_SECONDS, PROXY_SECONDS, DOZE = 60, 40, 10
 HOSTILE, PROXIED, LOST = 3, 40, 10
 MEGABYTES = 8 * 1024
-PAGE_TIME, KEY_TIME = 40, 10
+PAGE_TIME, KEY_TIME = 80, 10
 """What a page that begins and a key may take of the processors, in milliseconds: by the latter 200 pages that type a key every two seconds keep one processor
 busy. Other work on the machine changes these little; how long is waited for a processor is told beside them."""
 SECONDS = 60
@@ -114,6 +114,9 @@ def middle(values):
 
 
 def failed(measured):
+    """How many pages ended; why is printed."""
+    for failure in sorted(set(measured.failures)):
+        print("%d pages ended: %s" % (measured.failures.count(failure), failure), flush=True)
     return "pages that ended", len(measured.failures), 0
 
 
