@@ -218,7 +218,7 @@ class CommandLine(unittest.TestCase):
                 ("p ==> q", "30", ": the goal is false for p = T, q = F"), ("F", "30", ": the goal is false"),
                 ("(P:A->bool) (@x. Q x)", "30", ": all that this search tries was tried"), ("(P:A->bool) x ==> P y", "30", MODEL),
                 ("~" * 190 + "(P:A->bool) x", "30", ": the goal is nested too deeply for this search"),
-                ("(!x:A. P (f x) \\/ P x) ==> ?x. P (f (f x))", "0.01", " within 0.01 seconds")):
+                ("(!x:A. P (f x) \\/ P x) ==> ?x. P (f (f x))", "0.0001", " within 0.0001 seconds")):
             self.assertEqual(self.prove("g A `%s`;;\n" % goal, 1, "--seconds", seconds), (1, "none found%s\n" % why))
 
     def test_variables_whose_types_are_left_open(self):
