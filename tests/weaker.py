@@ -14,7 +14,7 @@ the checker misses there. A lemma that is refused since its form is gone (a name
 of a definition, and weakens what it says.
 
 How an edit is tried: in a crate above CRATE, with files under names of the edit's own. These have, of the files of definitions and lemmas that the law needs, the
-pieces that the law's proof speaks of and that speak of what is edited, in turn, as pieces.py tells; and there is the law with its proof, over them. All else is
+pieces that the law's proof speaks of and that speak of what is edited, in turn, as tools/pieces.py tells; and there is the law with its proof, over them. All else is
 taken from the libraries that `rt ci` has left in TREE. Several edits are tried in one crate, each with files of its own, since a check takes seconds before its
 first lemma. Lemmas of the crates below may be refused too: then CRATE's are checked against what these state. `--unedited` takes the same pieces as they stand:
 then each law has to be proved.
@@ -37,9 +37,11 @@ import threading
 import time
 
 import wrong_bodies
-from pieces import SEARCHES, USE, File, Pieces, Place, Use, is_named, words_of
 
 ROOT = wrong_bodies.ROOT
+sys.path.append(str(ROOT / "tools"))
+from pieces import SEARCHES, USE, File, Pieces, Place, Use, is_named, words_of  # noqa: E402 (tools/pieces.py)
+
 EDITS = ROOT / "tests" / "weaker"
 PARTS = ("specs", "proofs")
 # The name of the crate of copies.

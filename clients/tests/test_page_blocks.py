@@ -101,7 +101,7 @@ class Block(NamedTuple):
 
 def pages() -> List[str]:
     """All pages, by their paths."""
-    return sorted(str(path.relative_to(ROOT)) for folder in (".", "docs", "bench", "examples", "release", "tests", "theories") for path in (ROOT / folder).glob("*.md"))
+    return sorted(str(path.relative_to(ROOT)) for folder in (".", "docs", "bench", "examples", "release", "tests", "theories", "tools") for path in (ROOT / folder).glob("*.md"))
 
 
 def blocks(page: str) -> List[Block]:
@@ -124,8 +124,8 @@ def runner(page: str, block: Block) -> str:
 
 
 def quotes_source(block: Block) -> bool:
-    """Whether tests/pages.py compares a block with the file that its first line names."""
-    return bool(re.fullmatch(r"(?://|--) (?:crates|tests)/\S+", block.first))
+    """Whether tools/pages.py compares a block with the file that its first line names."""
+    return bool(re.fullmatch(r"(?://|--) (?:crates|tests|tools)/\S+", block.first))
 
 
 def run(words, folder, **given):

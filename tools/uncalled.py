@@ -1,7 +1,7 @@
 #!/usr/bin/env python3
 """Lists public calls of the crates that nothing calls: no other function of any crate, no test and no program.
 
-    python3 tests/uncalled.py    the last line is 'uncalled: N passed, M failed'
+    python3 tools/uncalled.py    the last line is 'uncalled: N passed, M failed'
 
 A contract says what a call promises where it answers, and none says that there is memory: so a body that always gives up meets it, and a call that nothing
 makes could have that body. Each public call is therefore made somewhere, or stands in ALLOWED or FOUND below with its reason. Both tables have to be true:
@@ -161,7 +161,7 @@ def main() -> None:
             uses[name].append(use)
     uncalled = {call.key for call in calls if not is_called(call, uses[call.name])}
     faults = [f"{key}: nothing calls it; a test or a program has to, or it goes" for key in sorted(uncalled - set(known))]
-    faults += [f"{key}: it is called by now, or gone, and still stands in a table of tests/uncalled.py" for key in sorted(set(known) - uncalled)]
+    faults += [f"{key}: it is called by now, or gone, and still stands in a table of tools/uncalled.py" for key in sorted(set(known) - uncalled)]
     for fault in faults:
         print(f"FAILED  {fault}")
     counts = collections.Counter("allowed" if key in ALLOWED else "found" for key in known)

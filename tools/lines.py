@@ -1,5 +1,5 @@
 #!/usr/bin/env python3
-"""Prints the table of lines by crate (`tests/pages.py --write` keeps it in out/LINES.md), and tests that each must-fail edit fits its file."""
+"""Prints the table of lines by crate (`tools/pages.py --write` keeps it in out/LINES.md), and tests that each must-fail edit fits its file."""
 import pathlib
 import re
 import sys

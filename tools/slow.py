@@ -2,7 +2,7 @@
 """Prints where the time of one crate's check went, by function: from the times at which the check kept its files.
 
     rt check --jobs 1                            in the crate's folder, from nothing (delete out/ first)
-    python3 bench/slow.py CRATE [--most N]       or the path of a folder of kept files in place of the crate's name
+    python3 tools/slow.py CRATE [--most N]       or the path of a folder of kept files in place of the crate's name
 
 A check of one process keeps a file of each module as it ends with it, so the time since the file before is what the module took. The modules of a function are its code, the list of
 its states (Lts), what each step has (Given, Reads), and its proof. With two jobs the times of two processes run together, and the figures say nothing.

@@ -1,8 +1,8 @@
 """Runs the gate on a clean clone of this repository, and prints what each part said of what passed, and what the processor did for each crate and part.
 
-    python3 bench/gate.py [--commit REF] [--log FILE]
+    python3 tools/gate.py [--commit REF] [--log FILE]
 
-The clone stands in a temporary folder, so that what earlier checks kept plays no part. The minutes are the gate's own last lines (tests/minutes.py); they go into
+The clone stands in a temporary folder, so that what earlier checks kept plays no part. The minutes are the gate's own last lines (tools/minutes.py); they go into
 out/GATE.md too, with the commit and the day. The exit status is the gate's. Needs Python 3.8 and `rt` on the PATH."""
 
 import argparse

@@ -1,9 +1,9 @@
 #!/usr/bin/env python3
 """The processor minutes of the gate, by crate and by part: what the gate's last lines tell.
 
-    python3 tests/minutes.py FILE
+    python3 tools/minutes.py FILE
 
-FILE is what `.ci/run` has written: tests/prove.py a line for each crate and kind of check,
+FILE is what `.ci/run` has written: tools/prove.py a line for each crate and kind of check,
 
     crate NAME KIND SECONDS
 
@@ -144,4 +144,6 @@ def table(text):
 
 
 if __name__ == "__main__":
+    if len(sys.argv) != 2:
+        sys.exit("usage: minutes.py FILE")
     print("\n".join(table(pathlib.Path(sys.argv[1]).read_text())))

@@ -14,11 +14,13 @@ import pathlib
 import re
 import sys
 
-import sessions
+ROOT = pathlib.Path(__file__).resolve().parent.parent
+TESTS = ROOT / "tests"
+sys.path.append(str(TESTS))
+import sessions  # noqa: E402 (tests/sessions.py)
 
-HERE = pathlib.Path(__file__).resolve().parent
-CRATES = HERE.parent / "crates"
-TABLE = HERE / "refusals.txt"
+CRATES = ROOT / "crates"
+TABLE = TESTS / "refusals.txt"
 
 Row = collections.namedtuple("Row", "what number arg why session commands")
 # What a reply is about: the commands of the theory up to the one that is reported, or the request itself; no number where that is accepted.
@@ -196,7 +198,7 @@ def faults_of_needs(table, need):
 
 def faults():
     """For each thing that is checked what is wrong with it, or None."""
-    every = [session for file in sorted((HERE / "sessions").glob("*.txt")) for session in sessions.read(file)] + [*sessions.generated()]
+    every = [session for file in sorted((TESTS / "sessions").glob("*.txt")) for session in sessions.read(file)] + [*sessions.generated()]
     shown = [it for session in every for it in shown_in(session)]
     replies = [it for it in shown if it.number]
     table, need = [*rows()], [*needed()]

@@ -1,4 +1,4 @@
-"""Each public call of the crates with its contract, as its source has it: what tests/pages.py writes to out/CONTRACTS.md."""
+"""Each public call of the crates with its contract, as its source has it: what tools/pages.py writes to out/CONTRACTS.md."""
 
 import pathlib
 import re
@@ -49,7 +49,7 @@ def of_file(path: pathlib.Path) -> Iterator[str]:
 
 def page(crates: pathlib.Path, names: List[str]) -> str:
     """The page of all calls, by crate and file."""
-    parts = ["# Each public call, with its contract\n\nMade by tests/pages.py; [what they come to](../docs/CONTRACTS.md).\n"]
+    parts = ["# Each public call, with its contract\n\nMade by tools/pages.py; [what they come to](../docs/CONTRACTS.md).\n"]
     for crate in names:
         found: Dict[str, List[str]] = {}
         for path in sorted((crates / crate / "src").glob("**/*.rt")):

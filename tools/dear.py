@@ -1,7 +1,7 @@
 #!/usr/bin/env python3
 """Lists the functions that are dear to prove, by what checks have kept: each function with a list of states above a size, in each crate's out/incremental.
 
-    python3 bench/dear.py [--above MB] [CRATE ..]
+    python3 tools/dear.py [--above MB] [CRATE ..]
 
 The list of a function's states is made by the borrow checker, and names every local at every step. A check takes a time that grows with the square of its size, so a function
 above 3 MB is split (docs/GATE.md, 'Time'). The figures need no clock, and so are the same on a busy machine. Run `rt check` or `rt lib` in a crate first. Of a function

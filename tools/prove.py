@@ -1,7 +1,7 @@
 #!/usr/bin/env python3
 """Proves a tree by `rt ci`, with its checks put side by side by another rule, and tries the wrong bodies of this tree over the libraries as they come.
 
-    python3 tests/prove.py TREE [--minutes FILE]
+    python3 tools/prove.py TREE [--minutes FILE]
 
 TREE is a copy of this tree without crates/*/must-fail, in which `rt ci` can run. What it checks there, and what counts as passed, is the toolchain's own:
 this loads the command `rt` and has it run its `ci` as it stands, but for two things that decide no verdict.
@@ -14,10 +14,10 @@ this loads the command `rt` and has it run its `ci` as it stands, but for two th
   it is made once.
 
 That they decide none is tested in each run, and told in its line `judge`: each task of `rt ci` was run once, after all that it waits for, and `rt ci` judges by what its own tasks
-gave; and at the end each sum is made again from those of the crates below. tests/judge.py compares with an unchanged `rt ci` over a small tree.
+gave; and at the end each sum is made again from those of the crates below. tools/judge.py compares with an unchanged `rt ci` over a small tree.
 
 The wrong bodies are tried by tests/wrong_bodies.py, where nothing else is ready. Where the toolchain's `rt` isn't as this knows it, `rt ci` itself is
-run, and then they are. FILE gets the processor seconds by crate, as tests/minutes.py reads them. Status 0 where all passed."""
+run, and then they are. FILE gets the processor seconds by crate, as tools/minutes.py reads them. Status 0 where all passed."""
 
 import argparse
 import importlib.machinery
@@ -32,7 +32,9 @@ import time
 from concurrent.futures import FIRST_COMPLETED, ThreadPoolExecutor, wait
 
 import minutes
-import wrong_bodies
+
+sys.path.append(str(pathlib.Path(__file__).resolve().parent.parent / "tests"))
+import wrong_bodies  # noqa: E402 (tests/wrong_bodies.py)
 
 # A check by more processes gains little.
 MOST = 4

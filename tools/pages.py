@@ -1,12 +1,12 @@
 #!/usr/bin/env python3
 """Checks the pages, and makes what they say of the definitions from these.
 
-    python3 tests/pages.py            checks; the last line is 'pages: N passed, M failed'
-    python3 tests/pages.py --write    writes the lists of definitions to out/DEFINITIONS.md, each public call's contract to out/CONTRACTS.md, the lines by
+    python3 tools/pages.py            checks; the last line is 'pages: N passed, M failed'
+    python3 tools/pages.py --write    writes the lists of definitions to out/DEFINITIONS.md, each public call's contract to out/CONTRACTS.md, the lines by
                                       crate to out/LINES.md, and the counts of README.md, and then checks
 
-The definitions that have to be believed are those that the contracts of some functions name, and what these name, and so on (tests/antt.py). They
-stand in three tiers, each without what stands in those before. tests/definitions.txt has sentences for files and definitions; where it has none,
+The definitions that have to be believed are those that the contracts of some functions name, and what these name, and so on (tools/antt.py). They
+stand in three tiers, each without what stands in those before. tools/definitions.txt has sentences for files and definitions; where it has none,
 the comment at a file's head or above a definition is taken. Of the first tier the list has the definitions themselves, each behind those that it names,
 and what its words of std mean, so that it can be read as one text."""
 
@@ -21,13 +21,11 @@ import tempfile
 
 import antt
 import contracts
+import lines as counting
 
 ROOT = pathlib.Path(__file__).resolve().parent.parent
-sys.path.insert(0, str(ROOT / "bench"))
-import lines as counting  # noqa: E402 (bench/lines.py)
-
 CRATES = ROOT / "crates"
-SENTENCES = ROOT / "tests" / "definitions.txt"
+SENTENCES = ROOT / "tools" / "definitions.txt"
 WEAKER = ROOT / "tests" / "weaker"
 LISTS = ROOT / "out" / "DEFINITIONS.md"
 LINES = ROOT / "out" / "LINES.md"
@@ -104,7 +102,7 @@ def edits_by_line(folder):
 
 
 class Sentences:
-    """What tests/definitions.txt says: of 'CRATE/FILE', of 'CRATE/FILE NAME', and of 'std NAME, NAME', words of std that the first tier has."""
+    """What tools/definitions.txt says: of 'CRATE/FILE', of 'CRATE/FILE NAME', and of 'std NAME, NAME', words of std that the first tier has."""
 
     def __init__(self, text):
         self.of, key, file = {}, "", ""
@@ -114,11 +112,11 @@ class Sentences:
             elif line.strip() and not line.startswith("#"):
                 name, colon, sentence = line.strip().partition(": ")
                 if not colon:
-                    raise antt.Unread(f"tests/definitions.txt, line {number}")
+                    raise antt.Unread(f"tools/definitions.txt, line {number}")
                 file = file if line.startswith("  ") else name
                 key = f"{file} {name}" if line.startswith("  ") else name
                 if key in self.of:
-                    raise antt.Unread(f"tests/definitions.txt, line {number}: {key} again")
+                    raise antt.Unread(f"tools/definitions.txt, line {number}: {key} again")
                 self.of[key] = sentence
 
 
@@ -204,7 +202,7 @@ class Definitions:
         known = {d.key for d in self.all} | {d.key.split(" ")[0] for d in self.all}
         for key in self.sentences.of:
             if key not in known and key.split(" ")[0] != STD:
-                yield f"tests/definitions.txt has a sentence for {key}, which isn't reached"
+                yield f"tools/definitions.txt has a sentence for {key}, which isn't reached"
         yield from self.faults_of_words()
         yield from self.faults_of_order()
         for key in DECIDED:
@@ -217,7 +215,7 @@ class Definitions:
                 if not self.of_file(d.module):
                     yield f"{d.key}: the file has no sentence"
                 if tier.each_has_a_sentence and not self.of_definition(d):
-                    yield f"{d.key} has no sentence, neither a comment in its file nor a line of tests/definitions.txt"
+                    yield f"{d.key} has no sentence, neither a comment in its file nor a line of tools/definitions.txt"
 
     def first_tier(self):
         """What counts as the first tier's, in the order of the page."""
@@ -228,7 +226,7 @@ class Definitions:
         met = {word_of(path) for d in self.counted(0) for path in self.library.named_by(d)[1]}
         told = [name for key in self.sentences.of if key.startswith(STD + " ") for name in key[len(STD) + 1 :].split(", ")]
         for name in sorted(met ^ set(told)):
-            yield f"the word {name} of std stands in the first tier, and tests/definitions.txt doesn't say what it means" if name in met else f"{name} doesn't stand in the first tier"
+            yield f"the word {name} of std stands in the first tier, and tools/definitions.txt doesn't say what it means" if name in met else f"{name} doesn't stand in the first tier"
 
     def faults_of_order(self):
         """Definitions of the first tier that stand before one that they name, and that doesn't name them."""
@@ -391,7 +389,7 @@ class Definitions:
 
 def with_title(lines):
     """The page of the lists."""
-    return "# The definitions, by tiers\n\nMade by tests/pages.py; [what they are](../docs/DEFINITIONS.md).\n\n" + "\n".join(lines) + "\n"
+    return "# The definitions, by tiers\n\nMade by tools/pages.py; [what they are](../docs/DEFINITIONS.md).\n\n" + "\n".join(lines) + "\n"
 
 
 def squeezed(lines):
@@ -475,7 +473,7 @@ def broken_links(page, text):
 
 def missing_paths(page, text):
     """Paths from the top of the repository, or from crates/ to a crate's files; NAME and * stand for any name. What is built has `out` in its path."""
-    paths = re.findall(r"(?<![\w/.-])((?:crates|docs|tests|bench|examples|clients|release)/[\w./*+-]*)", text)
+    paths = re.findall(r"(?<![\w/.-])((?:crates|docs|tests|tools|bench|examples|clients|release)/[\w./*+-]*)", text)
     paths += [f"crates/{path}" for path in re.findall(r"(?<![\w/.-])(hol_\w+/(?:src|specs|proofs)/[\w./*]*)", text)]
     for path in paths:
         path = path.rstrip(".-")
@@ -487,7 +485,7 @@ def stale_quotes(page, text):
     """Fenced code that begins with a comment that is a file's path: its other lines stand in that file, in this order."""
     for block in re.findall(r"^```\w+\n(.*?)^```", text, re.M | re.S):
         first, *quoted = block.splitlines()
-        if match := re.fullmatch(r"(?://|--) ((?:crates|tests)/\S+)", first):
+        if match := re.fullmatch(r"(?://|--) ((?:crates|tests|tools)/\S+)", first):
             lines = iter((ROOT / match.group(1)).read_text(encoding="utf-8").splitlines() if (ROOT / match.group(1)).is_file() else ())
             for line in quoted:
                 if line not in lines:
@@ -571,7 +569,7 @@ def definitions_checks(write):
         LINES.write_text("\n".join(["# Lines by crate", "", *counting.table()]) + "\n", encoding="utf-8")
         CALLS.write_text(contracts.page(CRATES, made.crates), encoding="utf-8")
         README.write_text(readme, encoding="utf-8")
-    stale = [] if readme == README.read_text(encoding="utf-8") else ["it isn't what the files make it: python3 tests/pages.py --write"]
+    stale = [] if readme == README.read_text(encoding="utf-8") else ["it isn't what the files make it: python3 tools/pages.py --write"]
     yield check("README.md, counts", stale)
     yield check("wrong bodies", counting.misfits())
 
@@ -587,7 +585,7 @@ def kit_faults():
 
 
 def page_checks():
-    pages = sorted(p for folder in (".", "docs", "bench", "examples", "release", "tests", "theories") for p in (ROOT / folder).glob("*.md"))
+    pages = sorted(p for folder in (".", "docs", "bench", "examples", "release", "tests", "theories", "tools") for p in (ROOT / folder).glob("*.md"))
     for page in pages:
         text = page.read_text(encoding="utf-8")
         for name, faults in (("lines", long_lines), ("links", broken_links), ("paths", missing_paths), ("quotes", stale_quotes)):

@@ -1,9 +1,9 @@
-"""Shows that tests/prove.py judges as the toolchain's `rt ci` does: both are run in two copies of one small tree, in which some crates have to pass and others to fail, each for
+"""Shows that tools/prove.py judges as the toolchain's `rt ci` does: both are run in two copies of one small tree, in which some crates have to pass and others to fail, each for
 another reason, and what they say of each crate, their counts and their statuses are compared.
 
-    python3 tests/judge.py
+    python3 tools/judge.py
 
-It takes some minutes and is no part of the gate: who changes tests/prove.py, or takes another toolchain, runs it. Status 0 where both say the same, and the crates of FAILED fail."""
+It takes some minutes and is no part of the gate: who changes tools/prove.py, or takes another toolchain, runs it. Status 0 where both say the same, and the crates of FAILED fail."""
 
 import pathlib
 import re
@@ -13,7 +13,7 @@ import sys
 import tempfile
 from typing import Iterator, List, NamedTuple, Set
 
-TESTS = pathlib.Path(__file__).resolve().parent
+ROOT = pathlib.Path(__file__).resolve().parent.parent
 
 CLAUSES = "ghost use Rattle.std.specs.Prelude.{◌≡◌, ◌+◌};\n\n"
 TWICE = "/// Twice the number.\npub fn twice(n: u8) -> u16\n    ensures { result ≡ n + %s }\n{\n    u16::from(n) + u16::from(n)\n}\n"
@@ -35,7 +35,7 @@ CRATES = {
 # The crates that have to fail, as `rt ci` names them in its last lines.
 FAILED = {"false_clause", "above_false_clause", "untidy", "false_test (tests)", "false_output (run)"}
 FAILING = "rt: FAILED: "
-# The lines that judge, and the one that tests/prove.py has beside them.
+# The lines that judge, and the one that tools/prove.py has beside them.
 JUDGING = re.compile(r"rt: |test |test result|\d+ passed, \d+ failed$")
 WATCHED = "judge: "
 
@@ -49,10 +49,10 @@ class Said(NamedTuple):
 
 
 def write_tree(tree: pathlib.Path) -> None:
-    """Writes the small tree, with tests/prove.py and what that imports."""
-    (tree / "tests").mkdir(parents=True)
-    for name in ("prove.py", "minutes.py", "wrong_bodies.py"):
-        shutil.copy(str(TESTS / name), str(tree / "tests"))
+    """Writes the small tree, with tools/prove.py and what that imports."""
+    for name in ("tools/prove.py", "tools/minutes.py", "tests/wrong_bodies.py"):
+        (tree / name).parent.mkdir(parents=True, exist_ok=True)
+        shutil.copy(str(ROOT / name), str(tree / name))
     (tree / "HANDLES").write_text("Handles allowed: none.\n")
     (tree / "crates.txt").write_text("".join(f"{name}: {uses}\n" for name, (uses, _, _) in CRATES.items()))
     for name, (_, source, output) in CRATES.items():
@@ -77,15 +77,15 @@ def failed_crates(judged: Said) -> Set[str]:
 
 
 def faults(plain: Said, watched: Said) -> Iterator[str]:
-    """What is amiss of what an unchanged `rt ci` said, and of what tests/prove.py said."""
+    """What is amiss of what an unchanged `rt ci` said, and of what tools/prove.py said."""
     for line in sorted({*plain.lines} ^ {*watched.lines}):
-        yield f"only {'rt ci' if line in plain.lines else 'tests/prove.py'} says: {line}"
+        yield f"only {'rt ci' if line in plain.lines else 'tools/prove.py'} says: {line}"
     if (plain.status, watched.status) != (1, 1):
-        yield f"rt ci ended with status {plain.status}, tests/prove.py with {watched.status}, where crates fail"
+        yield f"rt ci ended with status {plain.status}, tools/prove.py with {watched.status}, where crates fail"
     if failed_crates(plain) != FAILED:
         yield f"of rt ci these fail: {sorted(failed_crates(plain))}, and not {sorted(FAILED)}"
     if len(watched.judge) != 1 or not watched.judge[0].endswith(" 0 faults"):
-        yield f"tests/prove.py says of itself: {watched.judge}"
+        yield f"tools/prove.py says of itself: {watched.judge}"
 
 
 def main() -> None:
@@ -96,7 +96,7 @@ def main() -> None:
         for tree in trees:
             write_tree(tree)
         plain = said(["rt", "ci"], trees[0])
-        watched = said([sys.executable, "tests/prove.py", "."], trees[1])
+        watched = said([sys.executable, "tools/prove.py", "."], trees[1])
     found = list(faults(plain, watched))
     for fault in found:
         print(f"FAILED  {fault}")
