@@ -6,7 +6,7 @@ import re
 from typing import Dict, List, Mapping, NamedTuple, Optional, Sequence, Tuple
 
 from holls.notation import OUTSIDE
-from holls.packages import expansion, forward, lets, listed, replacing, simplifying
+from holls.packages import expansion, forward, lets, listed, predicates, replacing, simplifying
 from holls.packages.parts import Course, in_front, parts
 from holls.packages.scope import Asking, Standing
 from holls.surface import abbreviating, declarations
@@ -107,6 +107,7 @@ class Notation:
         self.commands: List[Command] = []
         self.has_packages = False
         self.lists = {name for one in imported.values() for name in one.lists}
+        self.types = {name for one in imported.values() for name in one.types}
         self.simple: Dict[str, None] = {}
         self._lets: Dict[str, str] = {}
         self._imported = imported
@@ -236,7 +237,7 @@ class Notation:
             self._standing.number = len(self.commands)
             if command.word == "let":
                 self._let(command, own)
-            elif command.word == "e" and forward.has_rules(command.text):
+            elif command.word == "e" and (forward.has_rules(command.text) or predicates.cites(command.text, self.types)):
                 found = self._translated(command, own)
                 steps += [(command, found)] if found.error is None else []
         if not steps:
@@ -263,6 +264,7 @@ class Notation:
             self.tables.append(table)
         self._course.behind(self.commands)
         self._course.add(found)
+        self.types.update(found.made.data)
 
     def _let(self, command: Command, own: Dict[str, str]) -> None:
         """Takes a name for a term on the way through a proof, where nothing is told."""

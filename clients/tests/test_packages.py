@@ -8,13 +8,14 @@ import tempfile
 import time
 import unittest
 from contextlib import redirect_stdout
+from unittest import mock
 
 from holls import check, fixes, manual, names, spelling
 from holls.files import File
 from holls.findings import Severity, findings
 from holls.graph import share_notation
 from holls.lsp import features, hovering, lookup
-from holls.packages import forward
+from holls.packages import forward, scope
 from holls.packages.parts import Part
 from holls.protocol import Goals, Made, Refusal
 from holls.prover.asking import Asker
@@ -66,7 +67,8 @@ class Types(unittest.TestCase):
                          "(!(a0:exp) (a1:exp). fn (Plus a0 a1) = f1 a0 a1 (fn a0) (fn a1))")
 
     def test_a_named_theorem_takes_three_commands_and_the_type_few_more(self):
-        for text, number in (("C", 20), ("C | D", 24), ("Numb num | Plus exp exp | Neg exp", 28), ("Numb num | Sum (exp list) (exp list) | Neg exp", 28)):
+        for text, number in (("C", 14), ("C | D", 18), ("Numb num | Plus exp exp | Neg exp", 22), ("Numb num | Sum (exp list) (exp list) | Neg exp", 22),
+                             ("A1 | A2 | A3 num | A4 exp | A5 | A6 exp exp", 25)):
             file = read("define_type exp = %s;;" % text)
             self.assertEqual(len(file.commands), 1 + number, [one.text[:60] for one in file.commands])
 
@@ -106,6 +108,19 @@ class Types(unittest.TestCase):
                 ("abbreviate `SUC x = x`;;", "the constant `SUC` stands already: another name for the abbreviation")):
             with self.subTest(text):
                 self.assertEqual([one for _, one in told(text)], [words])
+
+    def test_what_the_theorems_bind_is_called_otherwise_than_constructors(self):
+        statements = {one.name: one.text for one in names.written(read("define_type t = P num | fn t | a t | f1;;"))}
+        self.assertEqual(statements["t_INDUCTION"], "!P'. (!(a':num). P' (P a')) /\\ (!(a':t). P' a' ==> P' (fn a')) /\\ "
+                         "(!(a':t). P' a' ==> P' (a a')) /\\ (P' (f1:t)) ==> !x. P' x")
+        self.assertIn("?fn':t->Z. (!(a':num). fn' (P a') = f'0 a')", statements["t_RECURSION"])
+
+    def test_the_types_of_the_librarys_constants_are_found_once(self):
+        text = "define FN%d `FN%d l m = LENGTH (APPEND l m) + 1`;;"
+        read(text % (1, 1)).commands
+        with mock.patch.object(scope, "_defined_type", side_effect=scope._defined_type) as found:
+            self.assertIsNone(read(text % (2, 2)).notation.commands[-1].error)
+        self.assertEqual(found.call_count, 0)
 
     def test_without_the_theory_the_import_is_named(self):
         file = read("define_type t = C;;", False)
@@ -245,7 +260,28 @@ class Steps(unittest.TestCase):
                          "e (MATCH_MP_TAC NUM_INDUCT THEN BETA_TAC THEN CONJ_TAC THENL [ALL_TAC; ALL_TAC]) THEN REWRITE_TAC []")
         self.assertIn("SPEC_TAC (`(n:num)`,`(n:num)`) THEN MATCH_MP_TAC NUM_INDUCT", self.sent("g A `!m n. n + m = m`;;\ne INDUCT_ON `n`;;"))
         self.assertIn("SPEC_TAC (`(n:num)`,`(n:num)`) THEN MATCH_MP_TAC NUM_INDUCT", self.sent("g A `!n. n + 0 = n`;;\ne GEN_TAC;;\ne INDUCT_ON `n`;;"))
-        self.assertIn("MATCH_MP_TAC t_SPLIT", self.sent("define_type t = C | D t;;\ng A `!x. x = C`;;\ne CASES_ON `x`;;"))
+        for step in ("INDUCT_ON", "CASES_ON"):
+            found = self.sent("define_type t = C | D num;;\ng A `!x. x = C`;;\ne %s `x`;;" % step)
+            self.assertIn("MATCH_MP_TAC pk_EVERY THEN MATCH_MP_TAC t_INDUCTION THEN BETA_TAC THEN CONJ_TAC", found)
+        found = self.sent("define_type t = C | D t;;\ng A `!x. x = C`;;\ne CASES_ON `x`;;")
+        self.assertIn("(SUBGOAL_THEN `!P. (P (C:t)) /\\ (!(a:t). P (D a)) ==> (!) P` MATCH_MP_TAC", found)
+        found = self.sent("define_type t = C | D t;;\ndefine LEVEL `LEVEL C n = 0 /\\ LEVEL x 0 = 0 /\\ LEVEL (D x) (SUC n) = n`;;\ng A `!x. x = C`;;\ne CASES_ON `x`;;")
+        self.assertIn("e (MATCH_MP_TAC t_SPLIT THEN BETA_TAC", found)
+
+    def test_a_theorem_of_a_type_about_predicates_is_made_in_front_of_a_proof_that_names_it(self):
+        text = "define_type t = C | D t;;\ng A `!x. x = C`;;\ne %s;;\ne MATCH_MP_TAC t_SPLIT THEN MATCH_MP_TAC t_SPLIT;;\n"
+        found = [one.text for one in read(text % "MP_TAC (SPEC `\\x. x = C` t_INDUCT)").commands]
+        self.assertEqual([one for one in found if "pk_A_" in one or one.startswith("g A ")], [
+            "g pk_A_1 `!(P:t->bool). P C /\\ (!(a:t). P a ==> P (D a)) ==> (!) P`", "g pk_A_2 `!(P:t->bool). P C /\\ (!(a:t). P (D a)) ==> (!) P`",
+            "g A `!x. x = C`", "e MP_TAC (SPEC `\\x. x = C` pk_A_1)", "e MATCH_MP_TAC pk_A_2 THEN MATCH_MP_TAC pk_A_2"])
+        found = [one.text for one in read(text % "REWRITE_TAC [GSYM t_SPLIT]").commands]  # What a step makes in front that can't be carried out is taken back.
+        self.assertEqual(found[-1], "e MATCH_MP_TAC pk_A_2 THEN MATCH_MP_TAC pk_A_2")
+        self.assertEqual(len([one for one in found if one.startswith("g pk_A_2")]), 1)
+        self.assertEqual([one for one in found if one.startswith("g pk_A_1")], [])
+        file = read(text % "ALL_TAC")
+        found = lookup.word([*library(), file], file, file.lines.text.index("t_SPLIT") + 1)
+        self.assertIn("t_SPLIT", hovering.of_word(found, None))
+        self.assertIn("made in front of this proof. Here: `!P. P C", hovering.of_word(found, None).replace("(P:t->bool)", "P"))
 
     def test_induction_on_rules_keeps_what_else_is_quantified(self):
         found = self.sent("inductive EV `EV 0 /\\ (!n. EV n ==> EV (SUC (SUC n)))`;;\ng A `!n. EV n ==> ?m. n = m + m`;;\ne RULE_INDUCT EV;;")
@@ -565,6 +601,15 @@ class OverTheProgram(unittest.TestCase):
                 program.forget()
                 self.assertLess(spent, 2 * seconds)
 
+    def test_steps_by_the_type_are_accepted_whatever_the_goal_assumes(self):
+        text = "define_type t = P num | fn t | f0 | a (t list) t;;\ng EACH `!x:t. x = f0 ==> !y:t. x = y \\/ ~(y = x)`;;\ne GEN_TAC THEN DISCH_TAC;;\n" \
+               "e CASES_ON `y:t` THEN REPEAT GEN_TAC THEN ASM_REWRITE_TAC [EXCLUDED_MIDDLE; FORALL_SIMP] THEN REWRITE_TAC [distinctness \"t\"; EXCLUDED_MIDDLE];;\nqed;;\n" \
+               "define DEPTH `DEPTH f0 = 0 /\\ DEPTH (fn (P n)) = n /\\ DEPTH (a [] x) = 1 /\\ DEPTH x = 2`;;\nrecord q = Q P:num h:(q list);;\n" \
+               "g SAME `!x:t. x = x`;;\ne MATCH_MP_TAC t_INDUCT THEN BETA_TAC THEN REWRITE_TAC [FORALL_SIMP];;\nqed;;\n" \
+               "g AGAIN `!x:t. x = x`;;\ne INDUCT_ON `x` THEN REWRITE_TAC [FORALL_SIMP];;\nqed;;\n"
+        status, said = checked(text, "--alone", "--no-axioms")
+        self.assertEqual(status, 0, said)
+
     def test_many_constructors_are_accepted(self):
         rich = ("R%d", "R%d num", "R%d rich bool", "R%d A (rich list) num", "R%d (rich list) A rich (rich list)")
         text = "define_type rich = %s;;\n" % " | ".join(rich[number % 5] % number for number in range(32))
@@ -580,7 +625,7 @@ class OverTheProgram(unittest.TestCase):
         text = "define_type many = %s;;\n" % _many(20)
         text += "g APART `!x (y:A many). ~(K3 x [] = K18 x [y]) /\\ ~((K19:A many) = K4)`;;\n" \
                 "e REWRITE_TAC [distinctness \"many\"; injectivity \"many\"; FORALL_SIMP];;\nqed;;\n"
-        self.assertLess(len(read(text).commands), 70)
+        self.assertLess(len(read(text).commands), 60)
         status, said = checked(text, "--alone", "--no-axioms")
         self.assertEqual(status, 0, said)
 

@@ -8,12 +8,14 @@ from typing import Optional, Sequence
 from holls import binders, manual, names, notation
 from holls.files import File
 from holls.names import CONSTANT, IN_TERMS, TYPE, Known
+from holls.packages.predicates import cites
 from holls.text import Command
 from holls.view import PLAIN, View
 
 
 _OF_TERMS = ("RULE_INDUCT ", 'distinctness "', 'injectivity "')
 """Behind these words of steps stands a relation, or a type."""
+_OF_TYPES = "A type's theorem of induction, or of cases, for MATCH_MP_TAC: it is made in front of this proof."
 
 
 @dataclass(frozen=True)
@@ -72,6 +74,8 @@ def word(files: Sequence[File], file: File, place: int) -> Optional[Word]:
     is_term = file.is_declaration(number) or written.text[:written.offset(start)].endswith(_OF_TERMS)
     kinds = IN_TERMS if is_term else (names.kind_outside(written, written.offset(start)),)
     known = _made(file, command, start, name) or names.find(files, file, place, name, kinds)
+    if known is None and cites(name, file.notation.types):
+        return Word(name, start, end, command, False, _with_statement(manual.Entry(name, _OF_TYPES), file, command, start, view), view=view)
     return Word(name, start, end, command, False, known=known, view=view)
 
 

@@ -18,6 +18,8 @@ from holls.lsp.navigation import Navigation
 from holls.lsp.workspace import Document
 from holls.names import IN_TERMS, TYPE, Known
 from holls.packages.datatypes import RESERVED
+from holls.packages.scope import INDUCT, SPLIT
+from holls.packages.steps import outside
 from holls.packages.terms import LOGIC
 from holls.text import Command
 
@@ -162,10 +164,12 @@ def _pattern(name: str) -> "re.Pattern[str]":
 
 
 def _bare(file: File, known: Known) -> Iterator[Range]:
-    """Where a file has a constant's or a type's name outside of quotations: in `distinctness "exp"`, in `RULE_INDUCT STAR`, and where notation is declared."""
+    """Where a file has a constant's or a type's name outside of quotations: in `distinctness "exp"`, in `exp_SPLIT`, in `RULE_INDUCT STAR`, and where
+    notation is declared."""
     if known.kind not in IN_TERMS:
         return
     pattern = _pattern(known.name)
+    made = re.compile(r"(?<![A-Za-z0-9_'])%s(?=(?:%s|%s)(?![A-Za-z0-9_']))" % (re.escape(known.name), INDUCT, SPLIT)) if known.kind == TYPE else None
     for number, command in enumerate(file.commands):
         written = command.as_written
         is_declaration = file.is_declaration(number) and written.word not in _OF_THEOREMS
@@ -173,6 +177,8 @@ def _bare(file: File, known: Known) -> Iterator[Range]:
             before = written.text[:found.start()].rstrip(' "')
             if before.count("`") % 2 == 0 and (is_declaration or before.endswith(_OF_TYPES if known.kind == TYPE else _OF_RELATIONS)):
                 yield written.range(found.start(), found.end())
+        for found in made.finditer(outside(written.text)) if made and written.word == "e" else ():
+            yield written.range(*found.span())
 
 
 def _written(file: File, name: str, is_term: bool) -> Optional[int]:

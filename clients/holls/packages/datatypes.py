@@ -8,12 +8,13 @@ Arguments are types; the type itself and lists of it may be among them. The type
 from __future__ import annotations
 
 import re
-from typing import Dict, List, NamedTuple, Optional, Tuple
+from dataclasses import replace
+from typing import AbstractSet, Dict, List, NamedTuple, Optional, Tuple
 
 from holls.notation import FORWARD, TACTICALS
 from holls.packages.forms import DEFINE_TYPE as FORM
 from holls.packages.parsing import Place
-from holls.packages.scope import Asking, Constructor, Data
+from holls.packages.scope import INDUCT, SPLIT, Asking, Constructor, Data
 from holls.packages.terms import LOGIC, Type, tyvars
 from holls.surface.errors import Misread
 from holls.surface.reader import Reader
@@ -187,13 +188,12 @@ def analysed(written: Written, asking: Asking) -> Data:
     constructors = tuple(_analysed(one, types) for one in written.constructors)
     if all("r" in one.kinds for one in constructors):
         raise Misread(*where, "`%s` would have no element: each constructor takes one of it; begin with one that takes none" % name)
-    is_recursive = any(kind in one.kinds for one in constructors for kind in "rl")
-    has_parts = any("r" in one.kinds for one in constructors)
     result = "Z"
     while result in types.parameters:
         result += "'"
-    return Data(name, tuple(types.parameters), constructors, name + "_INDUCT", name + "_SPLIT", name + "_CASE", name + "_CASE",
-                name + "_RECURSION", result, name + "_SIZE" if is_recursive else "", name + "_LESS" if has_parts else None)
+    found = Data(name, tuple(types.parameters), constructors, name + INDUCT, name + SPLIT, name + "_CASE", name + "_CASE", name + "_RECURSION", result, "")
+    has_parts = any("r" in one.kinds for one in constructors)
+    return replace(found, size=name + "_SIZE", less=name + "_LESS" if has_parts else None) if found.is_recursive else found
 
 
 def _check_names(written: Written, asking: Asking) -> None:
@@ -216,15 +216,16 @@ def _analysed(written: WrittenConstructor, types: _Types) -> Constructor:
     return Constructor(written.name, tuple(type_ for type_, _ in found), "".join(kind for _, kind in found), hints if any(hints) else ())
 
 
-def argument_names(constructor: Constructor, asking: Asking) -> List[str]:
-    """What a constructor's arguments are called: their fields' names, or as HOL Light has them, `a`, or `a0`, `a1`, .."""
+def argument_names(constructor: Constructor, asking: Asking, own: AbstractSet[str] = frozenset()) -> List[str]:
+    """What a constructor's arguments are called: their fields' names, or as HOL Light has them, `a`, or `a0`, `a1`, .. `own` are the constructors that
+    don't stand yet."""
     number = len(constructor.types)
     found: List[str] = []
     for at in range(number):
         hint = constructor.hints[at] if constructor.hints else None
         name = hint or ("a" if number == 1 else "a%d" % at)
-        while asking.is_constant(name) or name in found or _USED.match(name):
-            name += "'"
+        while asking.is_constant(name) or name in own or name in found or _USED.match(name):
+            name += "_" if _USED.match(name) else "'"  # Where a variable is fixed its primes are found anew, as few as there can be.
         found.append(name)
     return found
 

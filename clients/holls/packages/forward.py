@@ -9,9 +9,10 @@ from __future__ import annotations
 import re
 from dataclasses import dataclass, field
 from functools import lru_cache
-from typing import Dict, List, NamedTuple, Sequence, Tuple
+from typing import Dict, List, NamedTuple, Optional, Sequence, Tuple
 
 from holls.notation import FORWARD
+from holls.packages import predicates
 from holls.packages.inference import check_depth, typed
 from holls.packages.matching_terms import matched
 from holls.packages.output import HIDDEN, PROOF, Plain, Steps, commands, conjuncts
@@ -19,7 +20,7 @@ from holls.packages.printing import show
 from holls.packages.rewriting import TRUE, Endless, rewritten
 from holls.packages.scope import Asking
 from holls.packages.steps import Change, outside
-from holls.packages.terms import (Term, Type, beta, conj, eq, forall, frees, is_binder, is_operation, same, strip, subst, tyinst, tymatch, tyshow,
+from holls.packages.terms import (BOOL, Term, Type, beta, conj, eq, forall, frees, is_binder, is_operation, same, strip, subst, tyinst, tymatch, tyshow,
                                   typeof, var)
 from holls.surface.errors import Misread
 from holls.surface.reader import Reader
@@ -34,6 +35,7 @@ RULES: Dict[str, str] = {
 _AT_TERMS = ("SPECL", "ISPEC", "ISPECL", "SPEC_ALL")
 """Those that make no theorem of their own."""
 _WORD = re.compile(r"(?<![A-Za-z0-9_'])(?:%s)(?![A-Za-z0-9_'])" % "|".join(RULES))
+_NAMED = re.compile(r"(?<![A-Za-z0-9_'])[A-Za-z_][A-Za-z0-9_']*")
 _TOKEN = re.compile(r"`[^`]*`|[A-Za-z_][A-Za-z0-9_']*|[^ \t\r\n]")
 _MOST_NESTED = 50
 
@@ -54,6 +56,22 @@ class Lemmas:
     asking: Asking
     plain: List[Plain] = field(default_factory=list)
     made: int = 0
+    of_types: Dict[str, Theorem] = field(default_factory=dict)
+
+    def of_type(self, name: str) -> Optional[Theorem]:
+        """The theorem of a type's predicates by its name, made where it doesn't stand; None of another name."""
+        made = None if name in self.of_types else predicates.named(name, self.asking)
+        if made is not None:
+            statement, proof = made
+            term = typed(check_depth(Reader(statement, EMPTY, None).term()), self.asking, BOOL)[0]
+            self.of_types[name] = self.add(term, [proof], "%s can't be made" % name)
+        return self.of_types.get(name)
+
+    def undo(self, number: int) -> None:
+        """Takes all back but so many commands."""
+        del self.plain[number:]
+        standing = {one.text.split()[1] for one in self.plain if one.text.startswith("g ")}
+        self.of_types = {name: theorem for name, theorem in self.of_types.items() if theorem.text in standing}
 
     def add(self, statement: Term, steps: Steps, told: str) -> Theorem:
         """Makes a hidden theorem."""
@@ -72,13 +90,18 @@ def has_rules(text: str) -> bool:
     return bool(_WORD.search(text)) and bool(_WORD.search(outside(text)))
 
 
+def _is_one(word: str, lemmas: Lemmas) -> bool:
+    """Whether a theorem begins with a word that doesn't stand as it is written."""
+    return word in RULES or lemmas.of_type(word) is not None
+
+
 def changes(text: str, lemmas: Lemmas) -> List[Change]:
     """What a step has in place of its rules. Raises `Misread`."""
     plain = outside(text)
     found: List[Change] = []
     at = 0
     while True:
-        match = _WORD.search(plain, at)
+        match = next((one for one in _NAMED.finditer(plain, at) if _is_one(one.group(), lemmas)), None)
         if match is None:
             return found
         reader = _Reader(text, match.start(), lemmas)
@@ -135,6 +158,9 @@ class _Reader:
             return self.rule(word, begin, depth)
         if word in FORWARD and not is_argument:
             return self.forward(word, begin, depth)
+        made = self.lemmas.of_type(word)
+        if made is not None:
+            return made
         statement = self.asking.statement(word)
         if statement is None:
             raise self.wrong(begin, "no theorem `%s` whose statement is known stands before this proof" % word)

@@ -19,6 +19,7 @@ from holls.packages.matching import (MOST_LEAVES, Decisions, case_term, construc
 from holls.packages.numerals import RULES, norm, of_numeral
 from holls.packages.output import HIDDEN, PUBLIC, Output, Steps, conjuncts
 from holls.packages.parsing import Place, Word, name_of, usage, words
+from holls.packages.predicates import need_split
 from holls.packages.printing import shown_briefly
 from holls.packages.recursion import primitive
 from holls.packages.scope import Asking
@@ -242,7 +243,7 @@ class _Splitting:
     """Proves a clause from the equations of the leaves: its variables are told apart as these are."""
 
     def __init__(self, definition: Definition, clause: Clause, rewrite: str) -> None:
-        self.asking, self.clause, self.rewrite = definition.asking, clause, rewrite
+        self.asking, self.out, self.clause, self.rewrite = definition.asking, definition.out, clause, rewrite
         self.used: Set[str] = {one[1] for one in clause.variables}
         self.left = MOST_LEAVES
 
@@ -263,6 +264,7 @@ class _Splitting:
                 raise error(self.clause.head, "this clause parts into too many cases: write fewer constructors in one clause")
             return [self.rewrite]
         data = self.asking.data_of(variable[2][0])
+        need_split(data, self.out)
         branches: List[Steps] = []
         for constructor in data.constructors:
             names = [fresh(one, self.used) for one in argument_names(constructor, self.asking)]

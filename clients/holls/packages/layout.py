@@ -75,10 +75,20 @@ class Layout:
         self.tight = tyshow(data.type, True) if data.parameters else self.type
         if data.parameters:
             self.tight = "(%s)" % self.type
-        self.arguments = [[Argument(*one) for one in zip(argument_names(con, asking), con.types, con.kinds)] for con in data.constructors]
+        self.own = {con.name for con in data.constructors}
+        self.arguments = [[Argument(*one) for one in zip(argument_names(con, asking, self.own), con.types, con.kinds)] for con in data.constructors]
         self.count = len(data.constructors)
+        given = self.own | self.taken
+        self.predicate, self.function = asking.fresh("P", given), asking.fresh("fn", given)
+        self._step = "f%d"
+        while any(asking.is_constant(self.step(at)) or self.step(at) in given for at in range(self.count)):
+            self._step = self._step.replace("%", "'%")
         self.labels = "(%s)" % _balanced([product(self._label_types(at)) for at in range(self.count)], "(%s,%s)sum")
         self.has_lists = any("l" in con.kinds for con in data.constructors)
+
+    def step(self, at: int) -> str:
+        """The variable for what a recursive function is at a constructor."""
+        return self._step % at
 
     def constructor(self, at: int) -> Constructor:
         """A constructor."""

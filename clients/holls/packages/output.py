@@ -15,8 +15,8 @@ PUBLIC, HIDDEN, PROOF = "public", "hidden", "proof"
 """What a command is for: what it makes is the user's, or serves other commands, or it is a step of a proof."""
 MOST_TOKENS = 4_096
 _STEP_TOKENS = 3_500
-_QUOTED_TOKENS = 3_000
-_TOKEN = re.compile(r"[A-Za-z0-9_']+|[^ \t\r\n]")
+_QUOTED_TOKENS = 4_000
+_TOKEN = re.compile(r"[A-Za-z0-9_']+|<=>|==>|->|\\/|/\\|\?!|[^ \t\r\n]")
 
 Span = Tuple[int, int]
 Steps = List[Union[str, Tuple[str, List["Steps"]]]]  # type: ignore[misc]

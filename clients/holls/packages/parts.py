@@ -87,10 +87,10 @@ def in_front(goal: Command, steps: Sequence[Tuple[Command, Translation]], standi
             found.placed[command.start] = translation.text, forward.changes(translation.text, lemmas)
         except Misread as error:
             found.placed[command.start] = translation.text, error
-            del lemmas.plain[done:]
+            lemmas.undo(done)
         except RecursionError:
             found.placed[command.start] = translation.text, Misread(0, 1, "this is nested too deeply for a package")
-            del lemmas.plain[done:]
+            lemmas.undo(done)
         for one in lemmas.plain[done:]:
             found.parts.append(Part(goal, command, one, not found.parts))
     return found

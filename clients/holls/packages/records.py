@@ -7,7 +7,7 @@ from __future__ import annotations
 
 from typing import List, Sequence
 
-from holls.packages import datatypes, functions
+from holls.packages import datatypes, functions, predicates
 from holls.packages.clauses import ClauseReader
 from holls.packages.datatypes import WrittenConstructor
 from holls.packages.forms import RECORD as FORM
@@ -82,7 +82,7 @@ class _Record:
     def _laws(self) -> None:
         name, type_, element, other = self.data.name, self.layout.type, self.element, self.other
         rules = "%s_FIELDS; %s_SETS; FORALL_SIMP" % (name, name)
-        split = "MATCH_MP_TAC %s THEN BETA_TAC THEN REWRITE_TAC [%s]" % (self.data.split, rules)
+        split = "%s THEN REWRITE_TAC [%s]" % (predicates.by_cases(self.data, self.out.asking), rules)
         whole = "%s %s" % (self.data.constructors[0].name, " ".join("(%s %s)" % (one, element) for one in self.readers))
         self.out.prove(name + "_ETA", "!%s:%s. %s = %s" % (element, type_, whole, element), split, PUBLIC)
         laws = ["(!(%s:%s) (%s:%s). %s (%s %s %s) = %s)" % (

@@ -18,6 +18,8 @@ from holls.surface.reader import Reader
 from holls.surface.table import EMPTY
 from holls.surface.vocabulary import PRELUDE_TYPES
 
+INDUCT, SPLIT = "_INDUCT", "_SPLIT"
+"""So end the names of a type's theorems about predicates."""
 _LONGEST_CHAIN = 5_000
 """So many definitions may hang on one another."""
 
@@ -36,9 +38,9 @@ class Constructor:
 class Data:
     """An inductive type, and the names of its theorems.
 
-    `induct` is of the form `.. ==> (!) P`, and so is `split`, without hypotheses; `case` is the constant of cases, and `case_theorem` its equations;
-    `recursion` is `!f0 .. ?fn. ..` with a `result` type; `equations` are distinctness and injectivity as rewrites. `size` is a constant, None where
-    the element itself is its size, and "" where there is none; by `less` a part is smaller.
+    `induct` is of the form `.. ==> (!) P`, and so is `split`, without hypotheses: these two stand of the types of theories/, and of others where they
+    are needed (predicates.py). `case` is the constant of cases, and `case_theorem` its equations; `recursion` is `!f0 .. ?fn. ..` with a `result` type.
+    `size` is a constant, None where the element itself is its size, and "" where there is none; by `less` a part is smaller.
     """
 
     name: str
@@ -51,13 +53,23 @@ class Data:
     recursion: str
     result: str
     size: Optional[str]
-    less: Optional[str]
+    less: Optional[str] = None
     is_of_library: bool = False
 
     @property
     def type(self) -> Type:
         """The type with its parameters."""
         return (self.name,) + self.parameters
+
+    @property
+    def induction(self) -> str:
+        """The theorem of induction of a type that a package makes, in HOL Light's form."""
+        return self.name + "_INDUCTION"
+
+    @property
+    def is_recursive(self) -> bool:
+        """Whether an element has others of the type, or lists of them."""
+        return any(kind in one.kinds for one in self.constructors for kind in "rl")
 
     def constructor(self, name: str) -> Optional[Constructor]:
         """A constructor by its name."""
@@ -114,14 +126,28 @@ class Unknown(Exception):
 
 
 @dataclass(frozen=True)
-class _Definition:
+class _Open:
+    """What a text says that isn't found yet. It is found once, where `owner` has it: all files that import that one have the same."""
+
+    owner: "Standing" = field(compare=False, repr=False)
+
+
+@dataclass(frozen=True)
+class _Definition(_Open):
     """The text of a definition, by which its constant has a type."""
 
     text: str
 
 
 @dataclass(frozen=True)
-class _OfType:
+class _Typed(_Open):
+    """The text of a constant's type."""
+
+    text: str
+
+
+@dataclass(frozen=True)
+class _OfType(_Open):
     """A constant of a type definition, or the type itself, by the theorem that something is in it."""
 
     type: str
@@ -129,7 +155,7 @@ class _OfType:
     is_abstraction: Optional[bool]
 
 
-@dataclass
+@dataclass(eq=False)
 class Standing:
     """What stands at a place. Dictionaries are of what was made in this file and those that it imports."""
 
@@ -180,7 +206,7 @@ class Standing:
         elif word == "new_definition":
             self._define(name, quoted)
         elif word == "new_constant" and name:
-            self.constants.setdefault(name, ("type", quoted))
+            self.constants.setdefault(name, _Typed(self, quoted))
         elif word == "new_type" and len(names) == 2 and names[1].isdecimal():
             self.arities.setdefault(name, int(names[1][:4]))
         elif word == "new_basic_type_definition" and len(names) == 6:
@@ -193,15 +219,15 @@ class Standing:
     def _define(self, theorem: str, quoted: str) -> None:
         head = quoted.split(None, 1)
         name = head[0].split(":")[0].split("=")[0] if head else ""
-        self.constants.setdefault(name, _Definition(quoted))
+        self.constants.setdefault(name, _Definition(self, quoted))
         self.definitions.setdefault(name, quoted)
         self.theorems.setdefault(theorem, ("definition", name))
 
     def _define_type(self, names: List[str]) -> None:
         type_, abstraction, representation, first, second, theorem = names
-        self.arities.setdefault(type_, _OfType(type_, theorem, None))
-        self.constants.setdefault(abstraction, _OfType(type_, theorem, True))
-        self.constants.setdefault(representation, _OfType(type_, theorem, False))
+        self.arities.setdefault(type_, _OfType(self, type_, theorem, None))
+        self.constants.setdefault(abstraction, _OfType(self, type_, theorem, True))
+        self.constants.setdefault(representation, _OfType(self, type_, theorem, False))
         for name in (first, second):
             self.theorems.setdefault(name, None)
 
@@ -221,38 +247,34 @@ class Standing:
             return LOGIC[name] if name in LOGIC else self.constants.get(name)
         return PRELUDE_TYPES[name] if name in PRELUDE_TYPES else self.arities.get(name)
 
-    @staticmethod
-    def _is_found(kind: str, kept: Any) -> bool:
-        """Whether what is kept is a type, or a number, already."""
-        if kept is None or kind == "arity":
-            return kept is None or isinstance(kept, int)
-        return isinstance(kept, str) or isinstance(kept, tuple) and kept[0] != "type"
-
     def _found(self, key: Tuple[str, str]) -> Any:
-        """What is kept under a key, found by its text where it isn't known yet, those that it needs first."""
-        kept = self._kept(key)
-        if self._is_found(key[0], kept):
-            return kept
-        waiting = [key]
+        """What is kept under a key, found by its text where it isn't known yet: those that it needs first, and each where it was made."""
+        if not isinstance(self._kept(key), _Open):
+            return self._kept(key)
+        waiting: List[Tuple[Standing, Tuple[str, str]]] = [(self, key)]
         while waiting:
-            kind, name = waiting[-1]
-            kept = self._kept((kind, name))
-            if self._is_found(kind, kept):
-                waiting.pop()
-                continue
-            try:
-                made = self._solve(kept)
-            except _Needs as need:
-                if need.key in waiting or len(waiting) > _LONGEST_CHAIN:
-                    made = None
-                else:
-                    waiting.append(need.key)
+            standing, (kind, name) = waiting[-1]
+            made = kept = standing._kept((kind, name))
+            if isinstance(kept, _Open):
+                needed, made = standing._one(kept, (kind, name))
+                if needed is not None and len(waiting) <= _LONGEST_CHAIN and not any(one is needed[0] and other == needed[1] for one, other in waiting):
+                    waiting.append(needed)
                     continue
-            except (Misread, RecursionError):
-                made = None
-            (self.constants if kind == "constant" else self.arities)[name] = made
+            (standing.constants if kind == "constant" else standing.arities)[name] = made
             waiting.pop()
         return self._kept(key)
+
+    def _one(self, kept: _Open, key: Tuple[str, str]) -> Tuple[Optional[Tuple["Standing", Tuple[str, str]]], Any]:
+        """What has to be found first, and where, or else what is found."""
+        if kept.owner is not self:
+            made = kept.owner._kept(key)
+            return ((kept.owner, key), None) if isinstance(made, _Open) else (None, made)
+        try:
+            return None, self._solve(kept)
+        except _Needs as need:
+            return (self, need.key), None
+        except (Misread, RecursionError):
+            return None, None
 
     def _solve(self, kept: Any) -> Any:
         inside = _Inside(self)
@@ -260,7 +282,7 @@ class Standing:
             return _defined_type(kept.text, inside)
         if isinstance(kept, _OfType):
             return self._of_type(kept, inside)
-        reader = Reader(kept[1].strip().lstrip(":"), EMPTY, None)
+        reader = Reader(kept.text.strip().lstrip(":"), EMPTY, None)
         return Inference(inside).type(check_depth(reader.ended(reader.read_type())))
 
     def _of_type(self, kept: _OfType, inside: "_Inside") -> Any:
@@ -332,7 +354,7 @@ class _Inside:
 
     def _now(self, key: Tuple[str, str]) -> Any:
         kept = self.standing._kept(key)
-        if not self.standing._is_found(key[0], kept):
+        if isinstance(kept, _Open):
             raise _Needs(key)
         return kept
 

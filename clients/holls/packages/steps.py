@@ -10,6 +10,7 @@ import re
 from dataclasses import dataclass, replace
 from typing import Dict, List, NamedTuple, Optional, Sequence, Set, Tuple
 
+from holls.packages import predicates
 from holls.packages.inference import check_depth, typed
 from holls.packages.output import goals
 from holls.packages.printing import show
@@ -168,7 +169,8 @@ class _Step:
             raise self.wrong("`%s` is of type `%s`, which is no inductive type" % (self.argument, tyshow(type_)))
         if self.word == "INDUCT_ON" and term[0] != "v":
             raise self.wrong("induction is on a variable")
-        return " THEN ".join([*steps, "MATCH_MP_TAC %s THEN BETA_TAC" % (data.induct if self.word == "INDUCT_ON" else data.split), *self._split(data)])
+        begun = predicates.by_induction(data) if self.word == "INDUCT_ON" else predicates.by_cases(data, self.asking)
+        return " THEN ".join([*steps, begun, *self._split(data)])
 
     @staticmethod
     def _split(data: Data) -> List[str]:

@@ -4,6 +4,7 @@ from __future__ import annotations
 
 from typing import Dict, List, Optional, Tuple
 
+from holls.packages import predicates
 from holls.packages.layout import Layout, added, cases, half_of
 from holls.packages.output import HIDDEN, PUBLIC, Output, Span, Steps, chunks, conjuncts, goals
 from holls.packages.scope import Data
@@ -87,16 +88,9 @@ class TypeCommands:
 
     def _induction(self) -> None:
         layout, name = self.layout, self.name
-        hypotheses = layout.every(self._inductive)
+        hypotheses = layout.every(lambda at: predicates.inductive(layout, at))
         steps: Steps = ["GEN_TAC", self._with("pk_MADE_INDUCT"), "DISCH_THEN MATCH_MP_TAC", *([] if self.is_plain else ["PURE_REWRITE_TAC [pk_%s_AR_DEF]" % name])]
-        self.out.prove(self.data.induct, "!P. %s ==> (!) P" % hypotheses, steps + self._parted(0, layout.count), PUBLIC)
-        self.out.prove(name + "_INDUCTION", "!P. %s ==> !x. P x" % hypotheses, "MP_TAC %s THEN REWRITE_TAC [ETA_AX]" % self.data.induct, PUBLIC)
-
-    def _inductive(self, at: int) -> str:
-        """What induction asks of a constructor."""
-        hypotheses = [("P " if one.kind == "r" else "ALL P ") + one.name for one in self.layout.arguments[at] if one.kind in "rl"]
-        concluded = "P %s" % self.layout.term(at)
-        return "%s ==> %s" % (" /\\ ".join(hypotheses), concluded) if hypotheses else concluded
+        self.out.prove(self.data.induction, "!%s. %s ==> !x. %s x" % (layout.predicate, hypotheses, layout.predicate), steps + self._parted(0, layout.count), PUBLIC)
 
     def _parted(self, first: int, number: int) -> Steps:
         """The steps by which what is asked of so many constructors gives what is asked of their labels. No goal has the cases of all: the types of
@@ -129,11 +123,11 @@ class TypeCommands:
 
     def _recursion(self) -> None:
         layout, result = self.layout, self.result
-        functions = " ".join("(f%d:%s)" % (at, layout.recursion_type(at, result)) for at in range(layout.count))
+        functions = " ".join("(%s:%s)" % (layout.step(at), layout.recursion_type(at, result)) for at in range(layout.count))
         body, unfold = self._recursor(functions)
-        self.out.prove(self.data.recursion, "!%s. ?fn:%s->%s. %s" % (functions, layout.tight, result, layout.every(self._recursive)), " THEN ".join((
+        self.out.prove(self.data.recursion, "!%s. ?%s:%s->%s. %s" % (functions, layout.function, layout.tight, result, layout.every(self._recursive)), " THEN ".join((
             "REPEAT GEN_TAC THEN %s THEN STRIP_TAC" % self._with("pk_MADE_RECURSION", "; `:%s`,`:B`" % result, body),
-            "EXISTS_TAC `fn:%s->%s` THEN REPEAT CONJ_TAC THEN REPEAT GEN_TAC THEN %s" % (layout.tight, result, self.definitions),
+            "EXISTS_TAC `%s:%s->%s` THEN REPEAT CONJ_TAC THEN REPEAT GEN_TAC THEN %s" % (layout.function, layout.tight, result, self.definitions),
             "FIRST_ASSUM MATCH_MP_TAC THEN BETA_TAC THEN PURE_REWRITE_TAC [%ssum_CASE] THEN BETA_TAC" % unfold,
             self._counted("; HD; TL; MAP; MAP_APPEND; pk_TAKE; pk_DROP"))), PUBLIC)
 
@@ -153,13 +147,14 @@ class TypeCommands:
         parts, values = layout.split(at, "l"), layout.split(at, "m")
         arguments = [parts[one.name] if one.kind in "rl" else layout.projected(at, one.name) for one in layout.arguments[at]]
         arguments += [values[one.name] for one in layout.arguments[at] if one.kind in "rl"]
-        return "(\\p. %s)" % " ".join(["(f%d:%s)" % (at, layout.recursion_type(at, self.result))] + arguments)
+        return "(\\p. %s)" % " ".join(["(%s:%s)" % (layout.step(at), layout.recursion_type(at, self.result))] + arguments)
 
     def _recursive(self, at: int) -> str:
         """The equation of a recursive function at a constructor."""
-        arguments = [one.name for one in self.layout.arguments[at]]
-        arguments += ["(fn %s)" % one.name if one.kind == "r" else "(MAP fn %s)" % one.name for one in self.layout.arguments[at] if one.kind in "rl"]
-        return "fn %s = %s" % (self.layout.term(at), " ".join(["f%d" % at] + arguments))
+        layout, function = self.layout, self.layout.function
+        arguments = [one.name for one in layout.arguments[at]]
+        arguments += [("(%s %s)" if one.kind == "r" else "(MAP %s %s)") % (function, one.name) for one in layout.arguments[at] if one.kind in "rl"]
+        return "%s %s = %s" % (function, layout.term(at), " ".join([layout.step(at)] + arguments))
 
     # ---- Equations between constructors
 
@@ -177,8 +172,8 @@ class TypeCommands:
         and there are as many pairs as constructors squared."""
         layout, constant, bits = self.layout, "pk_%s_TAG" % self.name, "bool list"
         tags = [_tag(at, layout.count) for at in range(layout.count)]
-        self.out.put("new_definition %s_DEF `%s = @fn:%s->%s. %s`" % (
-            constant, constant, layout.tight, bits, layout.every(lambda at: "fn %s = %s" % (layout.term(at), tags[at]))))
+        self.out.put("new_definition %s_DEF `%s = @%s:%s->%s. %s`" % (
+            constant, constant, layout.function, layout.tight, bits, layout.every(lambda at: "%s %s = %s" % (layout.function, layout.term(at), tags[at]))))
         self.out.made(constant + "_DEF", None)
         recursion = "(INST_TYPE [`:%s`,`:%s`] %s)" % (bits, self.result, self.data.recursion)
         for at in range(layout.count):
@@ -235,13 +230,11 @@ class TypeCommands:
 
     def _cases(self) -> None:
         layout, name, out = self.layout, self.name, self.out
-        out.prove(self.data.split, "!P. %s ==> (!) P" % layout.every(lambda at: "P %s" % layout.term(at)),
-                  "GEN_TAC THEN STRIP_TAC THEN MATCH_MP_TAC %s THEN REPEAT CONJ_TAC THEN REPEAT STRIP_TAC THEN ASM_REWRITE_TAC []" % self.data.induct, PUBLIC)
-        variable = fresh("x", layout.taken)
+        variable = fresh("x", layout.taken | layout.own)
         one_of = " \\/ ".join("(?%s. %s = %s)" % (layout.variables(at), variable, layout.term(at)) if layout.arguments[at] else "%s = %s" % (
             variable, layout.term(at)) for at in range(layout.count))
-        steps = [("REPEAT GEN_TAC THEN " if layout.arguments[at] else "") + self._picked(at) for at in range(layout.count)]
-        opened = "MATCH_MP_TAC %s THEN BETA_TAC" % self.data.split
+        steps = [self._picked(at) for at in range(layout.count)]
+        opened = predicates.by_induction(self.data)
         whole = "!%s:%s. %s" % (variable, layout.type, one_of)
         if layout.count <= _MOST_PLAIN:
             out.prove(name + "_CASES", whole, "%s THEN %s" % (opened, goals(steps)), PUBLIC)
@@ -259,7 +252,8 @@ class TypeCommands:
     def _picked(self, at: int) -> str:
         """The steps that an element made by a constructor is the one of the disjunction."""
         layout = self.layout
-        steps = ["DISJ2_TAC"] * at + ["DISJ1_TAC"] * (at < layout.count - 1)
+        steps = ["REPEAT GEN_TAC"] * bool(layout.arguments[at]) + ["DISCH_TAC"] * bool(set(self.data.constructors[at].kinds) & set("rl"))
+        steps += ["DISJ2_TAC"] * at + ["DISJ1_TAC"] * (at < layout.count - 1)
         steps += ["EXISTS_TAC `%s:%s`" % (one.name, tyshow(one.type)) for one in layout.arguments[at]]
         return " THEN ".join(steps + ["REFL_TAC"])
 
@@ -272,28 +266,29 @@ def need_cases(data: Data, out: Output) -> None:
     if data.is_of_library or out.asking.is_constant(data.case):
         return
     layout, result = Layout(data, out.asking), data.result
-    functions = " ".join("(f%d:%s)" % (at, layout.case_type(at, result)) for at in range(layout.count))
+    functions = " ".join("(%s:%s)" % (layout.step(at), layout.case_type(at, result)) for at in range(layout.count))
 
     def value(at: int) -> str:
-        return " ".join(["f%d" % at] + [one.name for one in layout.arguments[at]])
+        return " ".join([layout.step(at)] + [one.name for one in layout.arguments[at]])
 
     theorem = "pk_%s_CASE_DEF" % data.name
-    out.put("new_definition %s `%s %s = @fn:%s->%s. %s`" % (
-        theorem, data.case, functions, layout.tight, result, layout.every(lambda at: "fn %s = %s" % (layout.term(at), value(at)))))
+    out.put("new_definition %s `%s %s = @%s:%s->%s. %s`" % (
+        theorem, data.case, functions, layout.function, layout.tight, result,
+        layout.every(lambda at: "%s %s = %s" % (layout.function, layout.term(at), value(at)))))
     out.made(theorem, None)
     recursion = data.recursion
     for at in range(layout.count):
         recursion = "(SPEC `%s` %s)" % (_case_function(layout, at, result), recursion)
     for at in range(layout.count):
-        theorem = "(SPEC `f%d:%s` %s)" % (at, layout.case_type(at, result), theorem)
-    applied = "%s %s" % (data.case, " ".join("f%d" % at for at in range(layout.count)))
+        theorem = "(SPEC `%s:%s` %s)" % (layout.step(at), layout.case_type(at, result), theorem)
+    applied = "%s %s" % (data.case, " ".join(map(layout.step, range(layout.count))))
     whole = "!%s. %s" % (functions, layout.every(lambda at: "%s %s = %s" % (applied, layout.term(at), value(at))))
     out.prove(data.case, whole, "GEN_TAC THEN " * layout.count + _chosen(recursion, theorem), HIDDEN)
     out.constant(data.case, fun(*[fun(*con.types, result) for con in data.constructors], data.type, result))
 
 
 def _case_function(layout: Layout, at: int, result: str) -> str:
-    applied = " ".join(["(f%d:%s)" % (at, layout.case_type(at, result))] + [one.name for one in layout.arguments[at]])
+    applied = " ".join(["(%s:%s)" % (layout.step(at), layout.case_type(at, result))] + [one.name for one in layout.arguments[at]])
     return _constant_function(layout, at, result, applied)
 
 
@@ -324,7 +319,7 @@ def need_size(data: Data, out: Output) -> None:
         return
     layout = Layout(data, out.asking)
     theorem = "pk_%s_SIZE_DEF" % data.name
-    out.put("new_definition %s `%s = @fn:%s->num. %s`" % (theorem, data.size, layout.tight, _size_equations(layout, "fn")))
+    out.put("new_definition %s `%s = @%s:%s->num. %s`" % (theorem, data.size, layout.function, layout.tight, _size_equations(layout, layout.function)))
     out.made(theorem, None)
     recursion = "(INST_TYPE [`:num`,`:%s`] %s)" % (data.result, data.recursion)
     for at in range(layout.count):
