@@ -1,13 +1,14 @@
-"""What requests cost, at three sizes each: the program's processor time may grow as n log n, where n is what a request looks at, and its memory stays
-below what docs/PROTOCOL.md says ('Limits').
+"""What requests cost, at three sizes each: the program's processor time may grow as n log n, where n is what a request looks at, and that of a few, which
+docs/PROTOCOL.md names ('Limits'), as the square. None takes over 30 seconds or 512 MB, but outcomes that are kept and a step that PROTOCOL names.
 
     python3 tests/costs.py [--only NAME] [--program PATH]
 
-Each case puts documents of a size into a program of its own, and then asks: only that is timed, by the processor's clock, the least of some tries. A quadratic cost
-would pass no case: the largest size is 16 times the smallest, so it would take 256 times as long, where n log n takes some 25. Times below `NOISE` are taken for that."""
+Each case puts documents of a size into a program of its own, and then asks: only that is timed, by the processor's clock, the least of some tries. The largest
+size is 16 times the smallest: there n log n takes some 25 times as long, the square 256 times, and the cube 4,096 times. Times below `NOISE` are taken for that."""
 
 import argparse
 import dataclasses
+import itertools
 import json
 import math
 import resource
@@ -21,6 +22,8 @@ MEMORY = b'"error":9'
 # Seconds that a machine at work may add to anything, and how many times as long as n log n something may take.
 NOISE, SLACK = 0.02, 2.5
 TRIES = 2
+# What no request of 64 KB over 1,000 commands takes, but those that docs/PROTOCOL.md names.
+MOST_SECONDS, MOST_MEGABYTES = 30, 512
 
 
 class Cost(Exception):
@@ -70,13 +73,20 @@ class Session:
     def seconds(self, do: Callable[[], object]) -> float:
         before = self.server.seconds()
         do()
-        return self.server.seconds() - before
+        took = self.server.seconds() - before
+        if took > MOST_SECONDS:
+            raise Cost(f"{took:.0f} seconds, where {MOST_SECONDS} are the most")
+        return took
 
     def most_kilobytes(self) -> int:
         return self.server.kilobytes("VmHWM")
 
-    def end(self) -> None:
+    def end(self, most: int = MOST_MEGABYTES) -> None:
+        """Looks at the most memory that it had."""
+        megabytes = self.most_kilobytes() >> 10
         self.server.end()
+        if megabytes > most:
+            raise Cost(f"{megabytes} MB, where {most} are the most")
 
 
 # ---- cases whose time grows
@@ -126,6 +136,106 @@ def rules_that_are_assumed(program: str, n: int) -> float:
     session.stands(41, b"goals")
     session.end()
     return took
+
+
+def rules_that_are_cited(program: str, n: int) -> float:
+    """Four turns by n theorems of 300 rules each, on a goal of one node: a turn makes all of them."""
+    session = Session(program)
+    for j in range(n):
+        session.put([f"new_constant P{j} `:A->bool`", f"new_axiom R{j} `" + " /\\ ".join(f"P{j} x{k}" for k in range(300)) + "`"])
+    session.put(["g W `q:bool`"])
+    took = session.seconds(lambda: session.put(["e PURE_REWRITE_TAC [" + "; ".join(f"R{j}" for j in range(n)) + "]"] * 4))
+    session.stands(2 * n + 4, b"goals")
+    session.end()
+    return took
+
+
+def goals_with_binders(program: str, n: int) -> float:
+    """A report on n goals that differ, each of 900 binders."""
+    session = Session(program)
+    binders = " ".join(f"x{k}" for k in range(900))
+    session.put([f"new_axiom D `!{binders}. T`", "g W `" + " /\\ ".join(f"p{k}" for k in range(n)) + "`", "e REPEAT CONJ_TAC THEN MP_TAC D"])
+    took = session.seconds(lambda: session.stands(2, b"goals"))
+    session.end()
+    return took
+
+
+def imports_that_add_nothing(program: str, n: int) -> float:
+    """n imports of 990 entries that all stand already."""
+    session = Session(program)
+    session.put([f"new_constant c{k} `:bool`" for k in range(990)])
+    session.expect([request("new_theory", name="B", at=1)])
+    texts = ["new_constant d `:bool`", *["import A"] * (n + 1)]
+    session.expect([request("insert", theory="B", at=at, text=text) for at, text in enumerate(texts[:2])])
+    took = session.seconds(lambda: session.expect([request("insert", theory="B", at=at, text=texts[at]) for at in range(2, n + 2)]))
+    session.end()
+    return took
+
+
+# ---- cases whose time grows as the square of what they look at, as docs/PROTOCOL.md says
+
+
+def binders_at_another_type(program: str, n: int) -> float:
+    """The step that cites 40 times a theorem of n binders at another type."""
+    session = Session(program)
+    others = " ".join(f"x{k}" for k in range(1, n))
+    session.put(["new_constant c `:" + "A->" * n + "bool`", f"new_axiom AX `P (\\(x0:A) {others}. c x0 {others}):bool`", "g W `T`"])
+    took = session.seconds(lambda: session.put(["e ALL_TAC ORELSE " + " ORELSE ".join(["ACCEPT_TAC (INST_TYPE [`:B`,`:A`] AX)"] * 40)]))
+    session.stands(3, b"goals")
+    session.end()
+    return took
+
+
+def binders_taken_off(program: str, n: int) -> float:
+    """Twenty times a step that takes n binders of different names off a theorem."""
+    session = Session(program)
+    binders = " ".join(f"x{k}" for k in range(n))
+    session.put([f"new_axiom AX `!{binders}. P x0 ==> Q`", "g W `Q:bool`"])
+    took = session.seconds(lambda: session.put(["e MATCH_MP_TAC AX THEN NO_TAC ORELSE ALL_TAC"] * 20))
+    session.stands(21, b"goals")
+    session.end()
+    return took
+
+
+def pieces_stripped(program: str, n: int) -> float:
+    """Twenty times a step that strips a conjunction of n variables, each of which is assumed."""
+    session = Session(program)
+    session.put(["new_axiom AX `" + " /\\ ".join(f"p{k}" for k in range(n)) + "`", "g W `q:bool`"])
+    took = session.seconds(lambda: session.put(["e STRIP_ASSUME_TAC AX"] * 20))
+    session.stands(21, b"goals")
+    session.end()
+    return took
+
+
+def binders_shown(program: str, n: int) -> float:
+    """Eight reports on a goal of n binders."""
+    session = Session(program)
+    session.put([f"new_axiom D `!{' '.join(f'x{k}' for k in range(n))}. T`", "g W `q:bool`", "e MP_TAC D"])
+    took = session.seconds(lambda: [session.stands(2, b"goals") for _ in range(8)])
+    session.end()
+    return took
+
+
+def patterns_of_one_head(program: str, n: int) -> float:
+    """A turn by n patterns of one constant that differ in which of its seven arguments are equal, over n parts that none of them matches."""
+    session = Session(program)
+    patterns = itertools.islice((p for p in partitions(7) if max(p) < 6), n)
+    parts = ["g " + " ".join(f"v{(7 * i + j) % 50}" for j in range(7)) for i in range(n)]
+    session.put(["new_constant g `:" + "A->" * 7 + "bool`", "new_axiom X `" + " /\\ ".join("g " + " ".join("abcdefh"[k] for k in p) for p in patterns) + "`"])
+    session.put(["g W `" + " /\\ ".join(parts) + "`"])
+    took = session.seconds(lambda: session.put(["e PURE_REWRITE_TAC [X]"]))
+    session.stands(3, b"goals")
+    session.end()
+    return took
+
+
+def partitions(n: int) -> Iterator[List[int]]:
+    """Each way in which n places may be equal: of each place the number of its class, in the order in which these begin."""
+    if n == 0:
+        yield []
+        return
+    for rest in partitions(n - 1):
+        yield from (rest + [k] for k in range(max(rest, default=-1) + 2))
 
 
 # ---- cases that stay below a bound
@@ -203,7 +313,7 @@ def long_replies(program: str) -> None:
 def refused(session: Session, at: int) -> None:
     reply = session.report(at)
     if MEMORY not in reply:
-        raise Cost(f"a report of over 64 MiB is answered: {len(reply)} bytes")
+        raise Cost(f"a report that is too long is answered: {len(reply)} bytes")
 
 
 def heavy(session: Session, turns_each: int) -> Callable[[int], None]:
@@ -225,7 +335,7 @@ def heavy_outcomes(program: str) -> None:
         megabytes = session.most_kilobytes() >> 10
         if megabytes > most:
             raise Cost(f"{edits + 1} outcomes of {turns_each} turns there and back, of which two stand at once, take {megabytes} MB")
-        session.end()
+        session.end(most)
 
 
 def little_space(program: str) -> None:
@@ -237,6 +347,68 @@ def little_space(program: str) -> None:
             replaced(spaces)
         except Cost:
             replaced(spaces)
+    session.end(1 << 10)
+
+
+def redexes(body: str) -> str:
+    """1,950 abstractions of a body, one in another, over as many arguments: so many levels has a text."""
+    return "(\\" + "a " * 1_950 + f". {body})" + " T" * 1_950
+
+
+def deep(session: Session) -> None:
+    """A goal of 7,800 levels, with `c` at the end of half of them; it is no text, but one put into another."""
+    session.put(["new_constant c `:bool`", "new_constant d `:bool`", "new_axiom CC `c <=> c`", "new_axiom CD `c <=> d`", "new_axiom DC `d <=> c`"])
+    session.put([f"new_axiom AX `!x:bool. {redexes('x')}`", "g W `T`", f"e MP_TAC (SPEC `{redexes('c')}` AX)"])
+    session.stands(7, b"goals")
+
+
+def no_end_of_turns(program: str) -> None:
+    """All turns that there are, each at the end of 7,800 levels."""
+    session = Session(program)
+    deep(session)
+    took = session.seconds(lambda: session.put(["e PURE_REWRITE_TAC [CC]"]))
+    if took > 2 or b'"refusal":18' not in session.report(8):
+        raise Cost(f"10,000 turns take {took:.1f} seconds")
+    session.end()
+
+
+def goes_on_with_little(program: str) -> None:
+    """With 512 MB of addresses a step that takes gigabytes gets the memory line; then all is served that needs less, in the theory and without it."""
+    session = Session(program, ((resource.RLIMIT_AS, 512 << 20),))
+    deep(session)
+    (reply,) = session.server.ask([request("insert", theory="A", at=8, text="e REPLICATE_TAC 1995 (SUBST1_TAC CD THEN SUBST1_TAC DC)")])
+    if MEMORY not in reply:
+        raise Cost(f"a step of gigabytes is answered {reply[:200]!r}")
+    session.put(["e SUBST1_TAC CD"])
+    session.stands(8, b"goals")
+    session.expect([request("drop_theory", name="A"), request("new_theory", name="A", at=0)])
+    session.count = 0
+    session.put(["g W `T`", "e ACCEPT_TAC TRUTH", "qed"])
+    session.stands(2, b"made")
+    session.end()
+
+
+def binders_of_one_name(program: str) -> None:
+    """1,900 binders of one name are taken off, each under another: the names that they get have 1,900 primes, together 1.8 million letters."""
+    session = Session(program)
+    session.put(["new_axiom AX `!" + "x " * 1_900 + ". P x ==> Q`", "g W `Q:bool`"])
+    took = session.seconds(lambda: session.put(["e MATCH_MP_TAC AX"]))
+    session.stands(2, b"goals")
+    if took > 2:
+        raise Cost(f"1,900 binders of one name take {took:.1f} seconds")
+    session.end()
+
+
+def long_texts(program: str) -> None:
+    """A goal's text of more than 16 MiB is refused at once, and one of a few letters less isn't."""
+    session = Session(program)
+    name = "c" * 60_000
+    session.put([f"new_constant {name} `:bool`", "new_constant d `:bool`", f"new_axiom D `d <=> {name}`"])
+    session.put(["g W `" + " /\\ ".join(["d"] * 270) + "`", "e PURE_REWRITE_TAC [D]", "oops", "g W `" + " /\\ ".join(["d"] * 290) + "`", "e PURE_REWRITE_TAC [D]"])
+    session.stands(4, b"goals")
+    took = session.seconds(lambda: refused(session, 7))
+    if took > 1:
+        raise Cost(f"a text that is too long took {took:.1f} seconds")
     session.end()
 
 
@@ -245,8 +417,29 @@ GROWING: List[Tuple[Callable[[str, int], float], List[int]]] = [
     (reports_of_names, [2_000, 8_000, 32_000]),
     (turns_deep_in_a_term, [240, 960, 3_840]),
     (rules_that_are_assumed, [60, 240, 960]),
+    (rules_that_are_cited, [4, 16, 64]),
+    (goals_with_binders, [8, 32, 128]),
+    (imports_that_add_nothing, [50, 200, 800]),
 ]
-BOUNDED: List[Callable[[str], None]] = [built_from_its_end, quoted_again, rules_that_come_again, long_replies, heavy_outcomes, little_space]
+SQUARE: List[Tuple[Callable[[str, int], float], List[int]]] = [
+    (binders_at_another_type, [50, 200, 800]),
+    (binders_taken_off, [120, 480, 1_920]),
+    (pieces_stripped, [60, 240, 960]),
+    (binders_shown, [137, 550, 2_200]),
+    (patterns_of_one_head, [25, 100, 400]),
+]
+BOUNDED: List[Callable[[str], None]] = [
+    built_from_its_end,
+    quoted_again,
+    rules_that_come_again,
+    long_replies,
+    long_texts,
+    heavy_outcomes,
+    little_space,
+    goes_on_with_little,
+    no_end_of_turns,
+    binders_of_one_name,
+]
 
 
 @dataclasses.dataclass
@@ -258,23 +451,24 @@ class Found:
     fault: str
 
 
-def grown(case: Callable[[str, int], float], sizes: List[int], program: str) -> Found:
-    """Each size is compared with the smallest."""
+def grown(case: Callable[[str, int], float], sizes: List[int], program: str, order: Callable[[int], float]) -> Found:
+    """Each size is compared with the smallest, by the order in which it may grow."""
     took = [min(case(program, n) for _ in range(TRIES)) for n in sizes]
     said = ", ".join(f"{n}: {seconds * 1000:.1f} ms" for n, seconds in zip(sizes, took))
     least = max(took[0], NOISE)
     for n, seconds in zip(sizes, took):
-        may = SLACK * least * n * math.log(n) / (sizes[0] * math.log(sizes[0]))
+        may = SLACK * least * order(n) / order(sizes[0])
         if seconds > may:
             return Found(case.__name__, said, f"{n} takes {seconds:.3f} seconds, over {may:.3f}")
     return Found(case.__name__, said, "")
 
 
 def found(program: str, only: str) -> Iterator[Found]:
-    for case, sizes in GROWING:
+    growing = [(case, sizes, lambda n: n * math.log(n)) for case, sizes in GROWING] + [(case, sizes, lambda n: n * n) for case, sizes in SQUARE]
+    for case, sizes, order in growing:
         if only in ("", case.__name__):
             try:
-                yield grown(case, sizes, program)
+                yield grown(case, sizes, program, order)
             except Cost as cost:
                 yield Found(case.__name__, "", str(cost))
     for bounded in BOUNDED:

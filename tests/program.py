@@ -322,6 +322,14 @@ def limited_memory(program):
     yield "limits at which memory was refused", True, refused > 3
 
 
+def stack_taken(program):
+    """Before it answers it has touched the 4 MB of stack that the deepest documents need, so that none of these finds that there is no memory for them."""
+    server = watched.Watched(program)
+    yield "the first reply", [b'{"ok":true,"ran":0}'], server.ask([b'{"op":"stats"}'])
+    yield "4 MB of stack at the first reply", True, server.kilobytes("VmStk") >= 4_096
+    yield "the end of it", (b"", 0), server.end()
+
+
 def words(program):
     good = [(), ("--turns", "4"), ("--turns", "100000"), ("--cache=4096", "--turns", "1"), ("--cache", "1")]
     bad = ["--turns 0", "--turns 100001", "--turns x", "--turns", "--turns 1 --turns 1", "--cache 0", "--cache 4097", "--help", "more"]
@@ -342,7 +350,7 @@ def main():
     program = given.parse_args().program
     passed = failed = 0
     reads = failed_reads, one_byte_at_a_time, ends_within_a_line, replies_in_turn
-    for group in (*reads, failed_writes, taken_writes, signals, long_replies, unwaiting, missing, words, limited_memory):
+    for group in (*reads, failed_writes, taken_writes, signals, long_replies, unwaiting, missing, words, stack_taken, limited_memory):
         for name, want, found in group(program):
             passed, failed = passed + (want == found), failed + (want != found)
             if want != found:
