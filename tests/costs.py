@@ -388,6 +388,17 @@ def goes_on_with_little(program: str) -> None:
     session.end()
 
 
+def texts_that_stand(program: str) -> None:
+    """Texts of 3,300 tokens take 3 MB each, with what they read as and came to."""
+    session = Session(program)
+    before = session.most_kilobytes()
+    session.put([f"new_axiom A{k} `(f " + " ".join(["x"] * 3_300) + "):bool`" for k in range(60)])
+    each = (session.most_kilobytes() - before) / 60
+    if each > 3_500:
+        raise Cost(f"{each:.0f} KB each")
+    session.end()
+
+
 def binders_of_one_name(program: str) -> None:
     """1,900 binders of one name are taken off, each under another: the names that they get have 1,900 primes, together 1.8 million letters."""
     session = Session(program)
@@ -438,6 +449,7 @@ BOUNDED: List[Callable[[str], None]] = [
     little_space,
     goes_on_with_little,
     no_end_of_turns,
+    texts_that_stand,
     binders_of_one_name,
 ]
 
