@@ -9,9 +9,11 @@ With `--changed` it changes one rule after the other (changed_rules.py). Each ch
 
 import argparse
 import collections
+import inspect
 import json
 import pathlib
 import random
+import re
 import shutil
 import subprocess
 import sys
@@ -21,9 +23,8 @@ import threading
 import changed_rules
 import watched
 from edits import Command, request
-from model import alike, random_documents, random_matches, random_rewrites
+from model import alike, expressions, random_documents, random_matches, random_rewrites
 from model.documents import Observed, basis, theorems, told
-from model.expressions import forget
 from model.grammar import COMMANDS
 from model.random_texts import CONSTANTS, Writer
 from model.refusals import Unmodelled
@@ -45,7 +46,8 @@ WANTED = {
     "deftac": (1, 2, 5, 6, 7, 8, 9, 10, 13, 14), "e": (1, 3, 5, 6, 7, 8, 9, 13, 14, 15, 16, 17, 18), "g": (1, 2, 7, 8, 9, 10), "import": (2, 4, 21), "qed": (3, 19),
     "b": (3, 20), "r": (3, 16), "oops": (3,), "new_type": (2, 10), "new_constant": (2, 9, 10), "new_axiom": (2, 7, 8, 9, 10), "new_definition": (2, 7, 9, 10, 11, 12),
 }  # fmt: skip
-TACTICALS = ["THENL", "CHANGED_TAC", "FIRST", "DISCH_THEN", "POP_ASSUM", "FIRST_ASSUM"]
+# The tacticals by whose names something is refused.
+TACTICALS = sorted(set(re.findall(r'Unfit\(17, "(\w+)"\)', inspect.getsource(expressions))))
 ALWAYS_FIT = ["ALL_TAC", "BETA_TAC", "MP_TAC", "ASSUME_TAC", "STRIP_ASSUME_TAC", *(name for name, kinds in ARGUMENTS.items() if kinds == "l")]
 RESTING = [name for name, kinds in ARGUMENTS.items() if "t" in kinds or kinds == "l"]
 UNMATCHED = ["no implication", "another kind of term", "another name", "another type", "two terms for a variable", "a variable that is bound inside"]
@@ -155,7 +157,7 @@ class Comparison:
 
     def document(self, form, rng):
         """A document of a form is made, compared, edited some times, and taken out."""
-        forget()
+        expressions.forget()
         observed = Observed()
         document = [(name, list(map(Command, texts))) for name, texts in FORMS[form](rng, self.turns)]
         found = told(texts_of(document), self.turns, observed)

@@ -7,12 +7,9 @@ alone, has to be refused at its end, or not by 1."""
 import json
 import re
 
-REFUSALS = {
-    1: "syntax", 2: "in a proof", 3: "no proof open", 4: "unknown theory", 5: "unknown theorem", 6: "unknown TAC or wrong arguments", 7: "untypable",
-    8: "not bool", 9: "type constructor's arity", 10: "name taken", 11: "not closed", 12: "type variables not reflected", 13: "too large", 14: "bad rule",
-    15: "hypotheses not among assumptions", 16: "no goal open", 17: "refused", 18: "turn limit", 19: "goals remain", 20: "nothing to undo",
-    21: "import clash",
-}
+from model.grammar import TACTICALS
+from model.refusals import TEXTS
+
 PUT = [*"`()[];:,.~\\!?@=<>/-|'\"0 \n", "\0", "\x7f", "é", "\u2028", "𝔸", "T", "_", "THEN", "10000"]
 WORDS = ["x", "y", "P", "c", "T", "F", "x'", "_1", "bool", "e", "qed"]
 TYPES = ["A", "B", "bool", "ind", "t"]
@@ -72,7 +69,8 @@ class Grammar:
 
     def handing(self):
         to = self.pick(*HANDED, f"(X_CHOOSE_TAC {self.quote()})")
-        return self.pick(f"DISCH_THEN {to}", f"POP_ASSUM {to}", f"FIRST_ASSUM {to}", f"SUBGOAL_THEN {self.quote()} {to}")
+        word = self.pick(*(word for word, forms in TACTICALS.items() if "continuation" in forms))
+        return " ".join([word, *(to if form == "continuation" else self.quote() for form in TACTICALS[word])])
 
     def expression(self, deep=2):
         if deep == 0 or self.rng.random() < 0.3:
@@ -137,7 +135,7 @@ def fault_of(reply, text):
         return None if all(map(is_goal, told["goals"])) else "a goal"
     if set(told) == {"made", "ok"}:
         return None if all(re.match(r"(type|const|thm|tac) ", it) for it in told["made"]) else "what was made"
-    if set(told) != {"arg", "ok", "refusal", "text"} or REFUSALS.get(told["refusal"]) != told["text"]:
+    if set(told) != {"arg", "ok", "refusal", "text"} or TEXTS.get(told["refusal"]) != told["text"]:
         return "a refusal"
     return None if is_well_refused(told["refusal"], told["arg"], text) else "a refusal's arg"
 

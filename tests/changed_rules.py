@@ -18,7 +18,7 @@ CHANGES = [
     ("a freed name may be a constant's", "expressions.py", "if name not in self.standing:", "if True:", 120, "scopes"),
     ("a use counts one node more", "theories.py", 'node("use", named.size, named)', 'node("use", named.size + 1, named)', 120, "sizes"),
     ("a continuation's name counts nothing", "theories.py", "(written[0], keys), 1 + count", "(written[0], keys), count", 120, "sizes"),
-    ("a statement of SUBGOAL_THEN counts by its nodes alone", "theories.py", "2 + size(statement) + count", "1 + size(statement) + count", 120, "sizes"),
+    ("a statement of SUBGOAL_THEN counts by its nodes alone", "theories.py", "statement, 1 + size(statement)", "statement, size(statement)", 120, "sizes"),
     ("hypotheses count nothing", "theories.py", "return size(theorem.conclusion) + sum(map(size, theorem.hypotheses.values()))", "return size(theorem.conclusion)", 120, "sizes"),
     ("a list counts its theorems", "theories.py", "count += sum(map(theorem_size, theorems))", "count += sum(map(theorem_size, theorems)) + (len(theorems) - 1) * (kind == 'theorems')", 120, "sizes"),
     ("REPLICATE_TAC counts its number", "theories.py", "found, count = [], 1", "found, count = [], 1 + (word == 'REPLICATE_TAC')", 120, "sizes"),

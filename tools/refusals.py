@@ -29,7 +29,6 @@ Shown = collections.namedtuple("Shown", "session number arg commands")
 Need = collections.namedtuple("Need", "what number places", defaults=(0,))
 
 THEOREMS = ("Theorem", "TermAndTheorem", "Theorems")
-HANDING = ("DISCH_THEN", "POP_ASSUM", "FIRST_ASSUM", "SUBGOAL_THEN")
 # By which numbers each command is refused, and each request, as docs/PROTOCOL.md has them.
 COMMANDS = {
     "g": (1, 2, 7, 8, 9, 10, 13), "e": (1, 3, 5, 6, 7, 8, 9, 13, 14, 15, 16, 17, 18), "b": (1, 3, 20), "r": (1, 3, 16), "qed": (1, 3, 19), "oops": (1, 3),
@@ -73,9 +72,10 @@ def needed():
     rules = found(r'ForwardRule::\w+ => "(\w+)"', "src/forward_rule.rt", 8)
     for rule in rules:
         yield from [Need(rule, 13), Need(rule, 14)]
-    for word in found(r'"([A-Z]\w+)" => Sort::', "src/sort.rt", 21):
+    handing = found(r"^    (\w+)\((?:\w+, )?TacCall\),", "src/tac_expr.rt", 5)
+    for word, sort in found(r'"([A-Z]\w+)" => Sort::(\w+)', "src/sort.rt", 21):
         if word not in rules:
-            yield from [Need(word, number) for number in (13, 17, 18, *((6,) if word in HANDING else ()))]
+            yield from [Need(word, number) for number in (13, 17, 18, *((6,) if sort in handing else ()))]
     for word in found(r'"([a-z]\w*)" => Sort::', "src/sort.rt", 13):
         yield from [Need(word, number) for number in COMMANDS.get(word, (1,))]
     for op in found(r'"(\w+)" => (?:\w+\(value\)|Some\(Request::\w+\)),', "src/reading.rt", 9):

@@ -1,6 +1,7 @@
-"""What the notation's own names are, in a sentence each, from docs/TACTICS.md, docs/NOTATION.md and docs/PROTOCOL.md.
+"""The language's own words, in one table each: how each is written, what it does, and what it wants where it refuses something.
 
-Of each: how it is written, and what it does. A test compares the names, and the prelude's statements, with those pages.
+All that the clients say or test of these words is made of this: so a new one gets its line here. A test compares the names, and the prelude's statements, with
+docs/TACTICS.md, docs/NOTATION.md and docs/PROTOCOL.md; `python3 clients/colours.py` puts the words into the editors' files.
 """
 
 from __future__ import annotations
@@ -9,10 +10,11 @@ from typing import Dict, NamedTuple, Optional
 
 
 class Entry(NamedTuple):
-    """How a name is written, its arguments as parts of that, and what it does."""
+    """How a name is written, its arguments as parts of that, what it does, and what it wants, where it refuses something."""
 
     form: str
     does: str
+    wants: str = ""
 
     @property
     def arguments(self) -> str:
@@ -21,39 +23,46 @@ class Entry(NamedTuple):
 
 
 def _entries(lines: str) -> Dict[str, Entry]:
-    """The entries of a table, `FORM | SENTENCE` a line."""
-    rows = [line.split(" | ", 1) for line in lines.strip().splitlines()]
-    return {form.split()[0]: Entry(form.strip(), does.strip()) for form, does in rows}
+    """The entries of a table: `FORM | SENTENCE`, and ` | wants ..` of what refuses something. A line that is indented goes on with the one before."""
+    rows = [line.partition(" | ") for line in lines.replace("\n    ", " ").strip().splitlines()]
+    parts = [(form, *told.partition(" | wants ")) for form, _, told in rows]
+    return {form.split()[0]: Entry(form.strip(), does.strip(), wants.strip()) for form, does, _, wants in parts}
 
 
 FUNCTIONS = _entries(r"""
 ALL_TAC | Fits any goal and leaves it as it is.
-NO_TAC | Fits no goal: it is always refused.
-REFL_TAC | Closes `s = s`; the sides may differ in bound names.
-ACCEPT_TAC th | Closes the goal that the theorem concludes.
-CONJ_TAC | Of `p /\ q` leaves `p`, then `q`.
-DISJ1_TAC | Of `p \/ q` leaves `p`.
-DISJ2_TAC | Of `p \/ q` leaves `q`.
-EQ_TAC | Of `p <=> q` leaves `p ==> q`, then `q ==> p`.
-DISCH_TAC | Of `p ==> q`, or `~p`, leaves `q`, or `F`, with `p` assumed.
-GEN_TAC | Of `!x. p` leaves `p` at a fresh variable.
+NO_TAC | Fits no goal: it is always refused. | wants no goal at all
+REFL_TAC | Closes `s = s`; the sides may differ in bound names. | wants an equation whose sides are equal up to bound names
+ACCEPT_TAC th | Closes the goal that the theorem concludes. | wants a theorem that concludes the goal
+CONJ_TAC | Of `p /\ q` leaves `p`, then `q`. | wants p /\ q
+DISJ1_TAC | Of `p \/ q` leaves `p`. | wants p \/ q
+DISJ2_TAC | Of `p \/ q` leaves `q`. | wants p \/ q
+EQ_TAC | Of `p <=> q` leaves `p ==> q`, then `q ==> p`. | wants p <=> q
+DISCH_TAC | Of `p ==> q`, or `~p`, leaves `q`, or `F`, with `p` assumed. | wants p ==> q or ~p
+GEN_TAC | Of `!x. p` leaves `p` at a fresh variable. | wants !x. p
 X_GEN_TAC `v` | Of `!x. p` leaves `p` at v, a variable of x's type that is free nowhere in the goal.
-EXISTS_TAC `t` | Of `?x. p` leaves `p` at t, a term of x's type.
+    | wants !x. p, with a variable of x's type that is free nowhere in the goal
+EXISTS_TAC `t` | Of `?x. p` leaves `p` at t, a term of x's type. | wants ?x. p, with a term of x's type
 SPEC_TAC (`t`, `x`) | Leaves `!x.` the conclusion with x for each t; x is a variable of t's type that isn't free there, unless it is t.
+    | wants a variable of the term's type that isn't free in the goal, unless it is the term
 MP_TAC th | Of any goal `w` leaves `c ==> w`, c being what the theorem concludes.
 ASSUME_TAC th | Leaves the goal with what the theorem concludes assumed.
-CONTR_TAC th | Closes any goal by a theorem that concludes `F`.
-CHOOSE_TAC th | By a theorem `?x. p` leaves the goal with `p` assumed at a fresh variable.
+CONTR_TAC th | Closes any goal by a theorem that concludes `F`. | wants a theorem that concludes F
+CHOOSE_TAC th | By a theorem `?x. p` leaves the goal with `p` assumed at a fresh variable. | wants a theorem ?x. p
 X_CHOOSE_TAC `v` th | By a theorem `?x. p` leaves the goal with `p` assumed at v, a variable of x's type that is free in neither.
-DISJ_CASES_TAC th | By a theorem `p \/ q` leaves the goal with `p` assumed, then with `q`.
-SUBST1_TAC th | By a theorem `s = t` leaves the conclusion with t for each s.
-AP_TERM_TAC | Of `f x = f y` leaves `x = y`.
-AP_THM_TAC | Of `f x = g x` leaves `f = g`.
-MK_COMB_TAC | Of `f x = g y`, f and g of one type, leaves `f = g`, then `x = y`.
+    | wants a theorem ?x. p, with a variable of x's type that is free neither in it nor in the goal
+DISJ_CASES_TAC th | By a theorem `p \/ q` leaves the goal with `p` assumed, then with `q`. | wants a theorem p \/ q
+SUBST1_TAC th | By a theorem `s = t` leaves the conclusion with t for each s. | wants a theorem s = t
+AP_TERM_TAC | Of `f x = f y` leaves `x = y`. | wants f x = f y
+AP_THM_TAC | Of `f x = g x` leaves `f = g`. | wants f x = g x
+MK_COMB_TAC | Of `f x = g y`, f and g of one type, leaves `f = g`, then `x = y`. | wants f x = g y with f and g of one type
 UNDISCH_TAC `p` | Takes the newest assumption that is p out, and leaves `p ==> w` of the conclusion `w`.
+    | wants one of the goal's assumptions
 STRIP_ASSUME_TAC th | Assumes the parts of what the theorem concludes: both of a `/\`, a witness of a `?`, a goal for each side of a `\/`.
 STRIP_TAC | Does what GEN_TAC or CONJ_TAC does; of `p ==> q`, or `~p`, leaves `q`, or `F`, with the parts of `p` assumed.
+    | wants !x. p, p /\ q, p ==> q or ~p
 MATCH_MP_TAC th | By a theorem `!xs. s ==> t` whose t matches the goal leaves `s` at the instance, under `?` for variables that t lacks; matching is first order.
+    | wants a theorem !xs. s ==> t whose t matches the goal
 BETA_TAC | Reduces each `(\x. b) a` of the conclusion; closes the goal where that is `T`.
 REWRITE_TAC [th; ..] | Rewrites the conclusion by the theorems and the basic rewrites until no rule matches; closes the goal where that is `T`.
 ASM_REWRITE_TAC [th; ..] | Does what REWRITE_TAC does, by the assumptions too, which come before the basic rewrites.
@@ -70,32 +79,47 @@ RULE_INDUCT R | First in a command: induction on the rules of R, of a goal `!.. 
 """)
 """The steps that the clients expand (docs/PACKAGES.md)."""
 
-TACTICALS = _entries(r"""
+INFIXES = _entries(r"""
 THEN tac | `t THEN u` runs t, then u on each goal that is left; it binds tighter than ORELSE.
 THENL [tac; ..] | `t THENL [u; ..]` runs t, then each on the goal of its place; there have to be as many as goals.
 ORELSE tac | `t ORELSE u` runs t, or where it is refused u.
+""")
+"""The tacticals that stand between expressions."""
+
+PREFIXES = _entries(r"""
 REPEAT tac | Runs the expression, and itself again on each goal that is left, until it is refused; each round costs a turn.
 TRY tac | Runs the expression, or where it is refused leaves the goal.
 CHANGED_TAC tac | Runs the expression, and is refused where just the goal is left.
 EVERY [tac; ..] | Runs the expressions one after the other, each on all goals that are left.
 FIRST [tac; ..] | Runs the first expression that isn't refused.
 REPLICATE_TAC n tac | Runs the expression n times, each time on all goals that are left.
-DISCH_THEN tac | Of `p ==> q`, or `~p`, hands `p` as a theorem to the tactic, on `q` or `F`.
-POP_ASSUM tac | Takes the newest assumption out and hands it to the tactic as a theorem.
+""")
+"""Those that stand before what they run."""
+
+HANDING = _entries(r"""
+DISCH_THEN tac | Of `p ==> q`, or `~p`, hands `p` as a theorem to the tactic, on `q` or `F`. | wants p ==> q or ~p
+POP_ASSUM tac | Takes the newest assumption out and hands it to the tactic as a theorem. | wants a goal with an assumption
 FIRST_ASSUM tac | Hands the first assumption to the tactic with which it isn't refused, the newest first; the goal keeps all.
+    | wants an assumption that its tactic takes
 SUBGOAL_THEN `p` tac | Leaves `p` first, and then what the tactic leaves of the goal with `p` as a theorem.
 """)
-"""The tacticals."""
+"""Those that hand a theorem to a tactic, whose last argument it is."""
+
+TACTICALS = {**INFIXES, **PREFIXES, **HANDING}
 
 RULES = _entries(r"""
 ASSUME `p` | Makes `p` under the hypothesis `p`, which has to be among the goal's assumptions where it is used.
-REFL `t` | Makes `t = t`.
+    | wants a term of type bool: annotate what leaves its type open, as p:bool or (P:A->bool) x
+REFL `t` | Makes `t = t`. | wants a term
 SPEC `t` th | Of `!x. p` makes `p` at t, a term of x's type.
-SYM th | Of `s = t` makes `t = s`.
-CONJUNCT1 th | Of `p /\ q` makes `p`.
-CONJUNCT2 th | Of `p /\ q` makes `q`.
+    | wants a theorem !x. p and a term of x's type: annotate the term, or INST_TYPE the theorem
+SYM th | Of `s = t` makes `t = s`. | wants a theorem s = t: of !x. s = t take the ! off by SPEC
+CONJUNCT1 th | Of `p /\ q` makes `p`. | wants a theorem p /\ q: of !x. p /\ q take the ! off by SPEC
+CONJUNCT2 th | Of `p /\ q` makes `q`. | wants a theorem p /\ q: of !x. p /\ q take the ! off by SPEC
 MP th th | Of `p ==> q` and `p` makes `q`.
-INST_TYPE [`:ty`, `:A`; ..] th | Makes the theorem with types for its type variables.
+    | wants a theorem p ==> q and then the theorem p: of !x. p ==> q take the ! off by SPEC; ~p and p <=> q are no implications
+INST_TYPE [`:type`, `:A`; ..] th | Makes the theorem with types for its type variables.
+    | wants pairs of a type and the type variable that it is put for, as [`:bool`, `:A`]
 """)
 """The forward rules."""
 
@@ -116,18 +140,18 @@ ISPECL [`t`; ..] th | Of `!x y. p` makes `p` at the terms, and at the types that
 
 COMMANDS = _entries(r"""
 g NAME `term` | Opens a proof of the term, of type `bool`, under this name.
-e tac | Runs an expression of tactics on the first goal.
+e TAC | Runs an expression of tactics on the first goal.
 b | Undoes the newest `e` or `r` of the proof.
-r n | Puts the first goal last, n times.
+r NUM | Puts the first goal last, so many times.
 qed | Ends the proof and makes the theorem.
 oops | Gives the proof up.
-import THEORY | Takes the theorems, constants and types of the theory THEORY.hol.
-new_type NAME n | Declares a type constructor of so many arguments, 0 to 16.
+import NAME | Takes the theorems, constants and types of the theory NAME.hol.
+new_type NAME NUM | Declares a type constructor of so many arguments, 0 to 16.
 new_constant NAME `:type` | Declares a constant of this type.
 new_axiom NAME `term` | States an axiom.
 new_definition NAME `c v1 .. vn = term` | Defines the constant c and makes the theorem NAME.
 new_basic_type_definition TY ABS REP N1 N2 TH | Defines a type by a theorem TH, `P x`; makes ABS to it, REP from it, and the theorems N1 and N2.
-deftac NAME tac | Names an expression of tactics, which then stands where a tactic without arguments may.
+deftac NAME TAC | Names an expression of tactics, which then stands where a tactic without arguments may.
 """)
 """The commands."""
 

@@ -7,27 +7,21 @@ import re
 from functools import lru_cache
 from typing import Iterable, List, Optional, Tuple
 
-TACS = {
-    "ALL_TAC": "", "NO_TAC": "", "REFL_TAC": "", "ACCEPT_TAC": "a theorem", "CONJ_TAC": "", "DISJ1_TAC": "", "DISJ2_TAC": "",
-    "EQ_TAC": "", "DISCH_TAC": "", "GEN_TAC": "", "X_GEN_TAC": "a term", "EXISTS_TAC": "a term", "SPEC_TAC": "a pair of terms",
-    "MP_TAC": "a theorem", "ASSUME_TAC": "a theorem", "CONTR_TAC": "a theorem", "CHOOSE_TAC": "a theorem",
-    "X_CHOOSE_TAC": "a term and a theorem", "DISJ_CASES_TAC": "a theorem", "SUBST1_TAC": "a theorem", "AP_TERM_TAC": "",
-    "AP_THM_TAC": "", "MK_COMB_TAC": "", "UNDISCH_TAC": "a term", "STRIP_ASSUME_TAC": "a theorem", "STRIP_TAC": "",
-    "MATCH_MP_TAC": "a theorem", "BETA_TAC": "", "REWRITE_TAC": "a list of theorems", "ONCE_REWRITE_TAC": "a list of theorems",
-    "PURE_REWRITE_TAC": "a list of theorems", "ASM_REWRITE_TAC": "a list of theorems", "ONCE_ASM_REWRITE_TAC": "a list of theorems",
-}
+from holls import manual
+
+_TAKEN = {"": "", "th": "a theorem", "`v`": "a term", "`t`": "a term", "`p`": "a term", "(`t`, `x`)": "a pair of terms", "`v` th": "a term and a theorem",
+          "[th; ..]": "a list of theorems"}
+"""The forms of arguments in words."""
+
+TACS = {name: _TAKEN[entry.arguments] for name, entry in manual.FUNCTIONS.items()}
 """The tactics of HOL Light that the project has a name for, and their arguments."""
 
-TACTICALS = ("THEN", "THENL", "ORELSE", "REPEAT", "TRY", "CHANGED_TAC", "EVERY", "FIRST", "REPLICATE_TAC", "DISCH_THEN", "POP_ASSUM",
-             "FIRST_ASSUM", "SUBGOAL_THEN")
+TACTICALS = tuple(manual.TACTICALS)
 
-HANDING = ("DISCH_THEN", "POP_ASSUM", "FIRST_ASSUM", "SUBGOAL_THEN")
+HANDING = tuple(manual.HANDING)
 """The tacticals that hand a theorem to a function."""
 
-FORWARD = {
-    "ASSUME": "ASSUME `p`", "REFL": "REFL `t`", "SPEC": "SPEC `t` th", "SYM": "SYM th", "CONJUNCT1": "CONJUNCT1 th",
-    "CONJUNCT2": "CONJUNCT2 th", "MP": "MP th th", "INST_TYPE": "INST_TYPE [`:type`, `:A`; ..] th",
-}
+FORWARD = {name: entry.form for name, entry in manual.RULES.items()}
 """The forward rules, and how they are written."""
 
 _FINDS = "an editor's action at this step puts those of a proof in its place; `prove` at a prompt and `holls prove` write them"
@@ -67,19 +61,14 @@ RULES_ELSEWHERE = {
 }
 """Rules of HOL Light that aren't here, each with what to write in its place, if something."""
 
-COMMANDS = {
-    "g": "g NAME `term`", "e": "e TAC", "b": "b", "r": "r NUM", "qed": "qed", "oops": "oops", "import": "import NAME",
-    "new_type": "new_type NAME NUM", "new_constant": "new_constant NAME `:type`", "new_axiom": "new_axiom NAME `term`",
-    "new_definition": "new_definition NAME `NAME args = term`",
-    "new_basic_type_definition": "new_basic_type_definition TYPE ABS REP NAME NAME THEOREM", "deftac": "deftac NAME TAC",
-}
+COMMANDS = {name: entry.form for name, entry in manual.COMMANDS.items()}
 """The commands by their words, and how they are written."""
 
-MAKERS = ("g", "new_axiom", "new_definition", "new_constant", "new_type", "new_basic_type_definition", "deftac")
-"""The commands whose second word is the name of what they make."""
-
-OUTSIDE = MAKERS + ("import",)
+OUTSIDE = tuple(word for word in COMMANDS if word not in ("e", "b", "r", "qed", "oops"))
 """The commands that are refused while a proof is open."""
+
+MAKERS = tuple(word for word in OUTSIDE if word != "import")
+"""The commands whose second word is the name of what they make."""
 
 STEPS = ("e", "deftac")
 """The commands with an expression of tactics."""

@@ -8,6 +8,8 @@ from dataclasses import dataclass
 from json.encoder import encode_basestring
 from typing import Any, Dict, List, Tuple, Union
 
+from holls import manual
+
 LINE_BYTES = 65_536
 COMMANDS = 1_000
 THEORIES = 64
@@ -25,9 +27,8 @@ UNTYPABLE, NOT_BOOL, ARITY, NAME_TAKEN, NOT_CLOSED, NOT_REFLECTED = 7, 8, 9, 10,
 TOO_LARGE, BAD_RULE, HYPOTHESES, NO_GOAL, REFUSED, TURN_LIMIT = 13, 14, 15, 16, 17, 18
 GOALS_REMAIN, NOTHING_TO_UNDO, IMPORT_CLASH = 19, 20, 21
 
-RESERVED = frozenset(
-    "THEN THENL ORELSE REPEAT TRY CHANGED_TAC EVERY FIRST REPLICATE_TAC DISCH_THEN POP_ASSUM FIRST_ASSUM SUBGOAL_THEN ASSUME REFL "
-    "SPEC SYM CONJUNCT1 CONJUNCT2 MP INST_TYPE".split())
+RESERVED = frozenset((*manual.TACTICALS, *manual.RULES))
+"""The words that are no names."""
 
 _WRITTEN = json.JSONEncoder(separators=(",", ":"), ensure_ascii=False).encode
 _READ = json.JSONDecoder().raw_decode

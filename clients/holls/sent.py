@@ -5,7 +5,7 @@ from __future__ import annotations
 import re
 from typing import Dict, List, Mapping, NamedTuple, Optional, Sequence, Tuple
 
-from holls.notation import OUTSIDE
+from holls.notation import MAKERS, OUTSIDE
 from holls.packages import expansion, forward, lets, listed, predicates, replacing, simplifying
 from holls.packages.parts import Course, in_front, parts
 from holls.packages.scope import Asking, Standing
@@ -18,7 +18,7 @@ from holls.surface.vocabulary import MANY, PRELUDE_CONSTANTS, PRELUDE_TYPES, Voc
 from holls.text import Blemish, Command
 
 _NAMING = frozenset(("new_definition", "new_constant", "new_type", "new_basic_type_definition"))
-_STANDING = frozenset((*_NAMING, "g", "qed", "oops", "new_axiom", "deftac", *expansion.WORDS))
+_STANDING = frozenset((*MAKERS, "qed", "oops", *expansion.WORDS))
 """The commands that say what stands for packages."""
 _ENDING = frozenset((*OUTSIDE, "qed", "oops", *expansion.WORDS)) - frozenset(expansion.OF_FILES)
 """The commands at which a proof is over."""

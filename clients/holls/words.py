@@ -6,7 +6,7 @@ import re
 from functools import lru_cache
 from typing import List, Optional, Sequence, Tuple
 
-from holls import notation, protocol, syntax
+from holls import manual, notation, protocol, syntax
 from holls.protocol import Refusal
 
 Told = syntax.Told
@@ -93,8 +93,8 @@ def explain(text: str, refusal: Refusal, opened: Optional[str] = None) -> Told:
         words = own[number].replace("%s", refusal.argument)
     elif number == protocol.NOT_CLOSED and notation.tokens_before(text, len(text))[3:4] == [refusal.argument]:
         words = _RECURSIVE % refusal.argument
-    elif number == protocol.BAD_RULE and refusal.argument in _RULES:
-        words = "%s doesn't fit what it is given: it wants %s" % (refusal.argument, _RULES[refusal.argument])
+    elif number == protocol.BAD_RULE and refusal.argument in manual.RULES:
+        words = "%s doesn't fit what it is given: it wants %s" % (refusal.argument, manual.RULES[refusal.argument].wants)
     else:
         words = _FIXED.get(number, refusal.text + " %s").replace("%s", refusal.argument).strip()
     return start, end, words + _inside(text, number, refusal.argument)
@@ -190,31 +190,6 @@ def _by_assumptions(name: str) -> str:
     return "; rewriting by the assumptions is ASM_REWRITE_TAC []" if "REWRITE" in name else ""
 
 
-_FITS = {
-    "REFL_TAC": "an equation whose sides are equal up to bound names", "CONJ_TAC": "p /\\ q", "DISJ1_TAC": "p \\/ q",
-    "DISJ2_TAC": "p \\/ q", "EQ_TAC": "p <=> q", "GEN_TAC": "!x. p", "DISCH_TAC": "p ==> q or ~p", "AP_TERM_TAC": "f x = f y",
-    "AP_THM_TAC": "f x = g x", "MK_COMB_TAC": "f x = g y with f and g of one type", "NO_TAC": "no goal at all",
-    "EXISTS_TAC": "?x. p, with a term of x's type", "STRIP_TAC": "!x. p, p /\\ q, p ==> q or ~p",
-    "X_GEN_TAC": "!x. p, with a variable of x's type that is free nowhere in the goal",
-    "ACCEPT_TAC": "a theorem that concludes the goal", "CONTR_TAC": "a theorem that concludes F", "CHOOSE_TAC": "a theorem ?x. p",
-    "X_CHOOSE_TAC": "a theorem ?x. p, with a variable of x's type that is free neither in it nor in the goal",
-    "DISJ_CASES_TAC": "a theorem p \\/ q", "SUBST1_TAC": "a theorem s = t", "UNDISCH_TAC": "one of the goal's assumptions",
-    "MATCH_MP_TAC": "a theorem !xs. s ==> t whose t matches the goal",
-    "SPEC_TAC": "a variable of the term's type that isn't free in the goal, unless it is the term",
-    "DISCH_THEN": "p ==> q or ~p", "POP_ASSUM": "a goal with an assumption", "FIRST_ASSUM": "an assumption that its tactic takes",
-}
-"""What tactics and tacticals want, where they refuse some goals."""
-
-_RULES = {
-    "ASSUME": "a term of type bool: annotate what leaves its type open, as p:bool or (P:A->bool) x", "REFL": "a term",
-    "SPEC": "a theorem !x. p and a term of x's type: annotate the term, or INST_TYPE the theorem",
-    "SYM": "a theorem s = t: of !x. s = t take the ! off by SPEC",
-    "CONJUNCT1": "a theorem p /\\ q: of !x. p /\\ q take the ! off by SPEC", "CONJUNCT2": "a theorem p /\\ q: of !x. p /\\ q take the ! off by SPEC",
-    "MP": "a theorem p ==> q and then the theorem p: of !x. p ==> q take the ! off by SPEC; ~p and p <=> q are no implications",
-    "INST_TYPE": "pairs of a type and the type variable that it is put for, as [`:bool`, `:A`]",
-}
-"""What the rules of theorem expressions want. (REFL takes any term.)"""
-
 _TYPED = ("EXISTS_TAC", "X_GEN_TAC", "X_CHOOSE_TAC", "UNDISCH_TAC")
 """The functions whose term has to have the type that the goal, or a theorem, has at its place."""
 
@@ -232,7 +207,8 @@ def _refused(text: str, name: str) -> str:
     if name in _OF_TACTICALS:
         return _OF_TACTICALS[name]
     goal = "the first goal" if is_alone(text, name) else "the goal that it is run on"
-    return "%s doesn't fit %s%s%s" % (name, goal, ": it wants " + _FITS[name] if name in _FITS else "", _left_open(text, name))
+    entry = manual.entry(name)
+    return "%s doesn't fit %s%s%s" % (name, goal, ": it wants " + entry.wants if entry and entry.wants else "", _left_open(text, name))
 
 
 def is_alone(text: str, name: str) -> bool:

@@ -6,13 +6,14 @@ import re
 import tempfile
 import unittest
 
+import colours
 from holls import binders, manual, names, notation, protocol
 from holls.lsp import completion, features, hovering, lookup
 from holls.lsp.navigation import Navigation
 from holls.lsp.workspace import Workspace
 from holls.surface import declarations
 from tests.fake_server import Documents
-from tests.helpers import CLIENTS, ROOT
+from tests.helpers import ROOT
 
 A = "new_constant c `:A->bool`;;\ng ONCE `x = x /\\ y = y`;;\ne CONJ_TAC;;\ne REFL_TAC;; e REFL_TAC;;\nqed;;\ng GONE `x = x`;; oops;;\ndeftac HALVES CONJ_TAC;;\n"
 B = "import A;;\nnew_definition D_DEF `d x = c x`;;\nnew_basic_type_definition ty abs rep ABS_REP REP_ABS ONCE;;\n"
@@ -248,33 +249,34 @@ class Manual(unittest.TestCase):
         page = (ROOT / "docs" / "TACTICS.md").read_text(encoding="utf-8")
         names = [name for row in re.findall(r"^\| ([A-Z][A-Z0-9_, ]*_TAC) \|", page, re.M) for name in row.split(", ")]
         self.assertEqual(set(names), set(manual.FUNCTIONS))
-        self.assertEqual(set(manual.FUNCTIONS), set(notation.TACS))
-        self.assertEqual(set(manual.TACTICALS), set(notation.TACTICALS))
-        self.assertEqual((set(manual.RULES), set(manual.COMMANDS)), (set(notation.FORWARD), set(notation.COMMANDS)))
-        self.assertEqual(set(manual.TACTICALS) | set(manual.RULES), set(protocol.RESERVED))
+        grammar = (ROOT / "docs" / "NOTATION.md").read_text(encoding="utf-8")
+        reserved = re.search(r"^Reserved: (.*?)\. Command words", grammar, re.M | re.S).group(1)
+        self.assertEqual(set(re.findall(r"`(\w+)`", reserved)), set(protocol.RESERVED))
+        commands = re.search(r"^command := (.*?)^```", grammar, re.M | re.S).group(1)
+        self.assertEqual(set(re.findall(r"(?:^|\| )([a-z_]+)\b", commands)), set(manual.COMMANDS))
 
-    def test_the_editors_colour_its_commands_and_tacticals(self):
-        vim = (CLIENTS / "neovim" / "syntax" / "hol.vim").read_text(encoding="utf-8")
-        code = json.loads((CLIENTS / "vscode" / "syntaxes" / "hol.tmLanguage.json").read_text(encoding="utf-8"))["patterns"]
-        for group, name, own in (("holCommand", "keyword.control.hol", notation.COMMANDS), ("holTactical", "keyword.operator.hol", notation.TACTICALS)):
-            words = re.search(r"^syntax keyword %s (.*)$" % group, vim, re.M).group(1).split()
-            self.assertEqual(set(words), set(own))
-            matched = next(one["match"] for one in code if one.get("name") == name)
-            self.assertEqual(set(re.search(r"\(([a-zA-Z_|]+)\)", matched).group(1).split("|")), set(own))
+    def test_it_has_the_tactics_of_the_program_with_what_they_take(self):
+        source = (ROOT / "crates" / "hol_goal" / "src" / "tac_code.rt").read_text(encoding="utf-8")
+        kinds = dict(re.findall(r"TacCode::(\w+) => ArgumentKind::(\w+)", source))
+        words = {"Nothing": "", "Term": "a term", "Pair": "a pair of terms", "Theorem": "a theorem", "TermAndTheorem": "a term and a theorem",
+                 "Theorems": "a list of theorems"}
+        self.assertEqual({name: words[kinds[code]] for code, name in re.findall(r'TacCode::(\w+) => "(\w+)"', source)}, notation.TACS)
+
+    def test_the_editors_colour_its_words(self):
+        self.assertEqual(colours.stale(), [], "python3 clients/colours.py --write")
+        for place in colours.PLACES:
+            text = place.file.read_text(encoding="utf-8")
+            less = colours.made(place._replace(words=place.words[1:]), text)
+            self.assertNotEqual(less, text)
+            self.assertEqual(colours.made(place, less), text)
+            with self.assertRaises(ValueError):
+                colours.made(place, "no words")
         self.assertEqual(set(manual.DECLARATIONS), set(declarations.WORDS))
-        for word in declarations.WORDS:
-            self.assertIn(word, re.search(r"^syntax match holDeclaration (.*)$", vim, re.M).group(1))
-            self.assertIn(word, next(one["match"] for one in code if one.get("name") == "keyword.other.hol"))
+        self.assertLessEqual(set(declarations.WORDS) - {"local"}, set(colours.DECLARATIONS))
 
     def test_the_preludes_statements_are_those_of_the_page(self):
         page = (ROOT / "docs" / "NOTATION.md").read_text(encoding="utf-8")
         self.assertEqual(dict(re.findall(r"^\| ([A-Z0-9_]+) \| `([^`]*)` \|$", page, re.M)), manual.PRELUDE)
-
-    def test_a_functions_form_has_the_arguments_it_takes(self):
-        kinds = {"": "", "th": "a theorem", "`v`": "a term", "`t`": "a term", "`p`": "a term", "(`t`, `x`)": "a pair of terms",
-                 "`v` th": "a term and a theorem", "[th; ..]": "a list of theorems"}
-        for name, entry in manual.FUNCTIONS.items():
-            self.assertEqual(kinds[entry.arguments], notation.TACS[name], name)
 
 
 if __name__ == "__main__":

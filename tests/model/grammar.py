@@ -8,11 +8,24 @@ import re
 
 from model.refusals import Refusal, Unmodelled
 
-RESERVED = set(
-    "THEN THENL ORELSE REPEAT TRY CHANGED_TAC EVERY FIRST REPLICATE_TAC DISCH_THEN POP_ASSUM FIRST_ASSUM SUBGOAL_THEN "
-    "ASSUME REFL SPEC SYM CONJUNCT1 CONJUNCT2 MP INST_TYPE".split()
-)
-COMMANDS = "g e b r qed oops import new_type new_constant new_axiom new_definition new_basic_type_definition deftac".split()
+# What stands around the words of tacticals that stand between, what follows those that stand before, the forward rules and the commands: each part by the
+# method that reads it, by which the rest of the model knows it too. None: a command that isn't modelled.
+INFIXES = {"THEN": ("operand", "operand"), "THENL": ("operand", "expressions"), "ORELSE": ("operand", "operand")}
+TACTICALS = {
+    "TRY": ("operand",), "REPEAT": ("operand",), "CHANGED_TAC": ("operand",), "EVERY": ("expressions",), "FIRST": ("expressions",), "REPLICATE_TAC": ("number", "operand"),
+    "DISCH_THEN": ("continuation",), "POP_ASSUM": ("continuation",), "FIRST_ASSUM": ("continuation",), "SUBGOAL_THEN": ("quotation", "continuation"),
+}  # fmt: skip
+RULES = {
+    "ASSUME": ("quotation",), "REFL": ("quotation",), "SPEC": ("quotation", "simple_theorem"), "SYM": ("simple_theorem",), "CONJUNCT1": ("simple_theorem",),
+    "CONJUNCT2": ("simple_theorem",), "MP": ("simple_theorem", "simple_theorem"), "INST_TYPE": ("instances", "simple_theorem"),
+}  # fmt: skip
+COMMANDS = {
+    "g": ("name", "quotation"), "e": ("expression",), "b": (), "r": ("number",), "qed": (), "oops": (), "import": ("name",), "new_type": ("name", "arity"),
+    "new_constant": ("name", "type_quotation"), "new_axiom": ("name", "quotation"), "new_definition": ("name", "definition"), "new_basic_type_definition": None,
+    "deftac": ("name", "expression"),
+}  # fmt: skip
+FORMS = {**INFIXES, **TACTICALS}
+RESERVED = {*FORMS, *RULES}
 SYMBOLS = ["<=>", "==>", "\\/", "/\\", "->", "?!", "=", "~", "\\", "!", "?", "@", "(", ")", "[", "]", ".", ":", ",", ";", "`"]
 BINDERS, INFIXES = ("\\", "!", "?", "?!", "@"), ("<=>", "==>", "\\/", "/\\", "=")
 TOKEN = re.compile(r"[ \t\n\r]*(?:(?P<word>[A-Za-z_][A-Za-z0-9_']*)|(?P<number>[0-9]+)|(?P<symbol>%s)|(?P<end>\Z))" % "|".join(map(re.escape, SYMBOLS)))
@@ -224,19 +237,20 @@ class Expressions(Terms):
         word = self.word()
         if self.kind() == "(":
             return self.in_parentheses(self.expression)
-        self.at += word in RESERVED
-        if word in ("REPEAT", "TRY", "CHANGED_TAC"):
-            return (word, self.operand())
-        if word in ("EVERY", "FIRST"):
-            return (word, self.listed(self.expression))
-        if word == "REPLICATE_TAC":
-            return (word, int(self.take("number")[1]), self.operand())
-        if word in ("DISCH_THEN", "POP_ASSUM", "FIRST_ASSUM"):
-            return (word, self.continuation())
-        if word == "SUBGOAL_THEN":
-            return (word, self.quotation(), self.continuation())
-        self.at -= word in RESERVED
+        if word in TACTICALS:
+            return self.with_parts(word, TACTICALS[word])
         return ("call", self.name(), self.arguments())
+
+    def with_parts(self, word, forms):
+        """The word that stands here, with what follows it."""
+        self.at += 1
+        return (word, *(getattr(self, form)() for form in forms))
+
+    def expressions(self):
+        return self.listed(self.expression)
+
+    def number(self):
+        return int(self.take("number")[1])
 
     def operand(self):
         return self.in_parentheses(self.expression) if self.kind() == "(" else ("call", self.name(), [])
@@ -270,19 +284,10 @@ class Expressions(Terms):
 
     def theorem(self):
         word = self.word()
-        self.at += word in RESERVED
-        if word in ("ASSUME", "REFL"):
-            return (word, self.quotation())
-        if word == "SPEC":
-            return (word, self.quotation(), self.simple_theorem())
-        if word in ("SYM", "CONJUNCT1", "CONJUNCT2"):
-            return (word, self.simple_theorem())
-        if word == "MP":
-            return (word, self.simple_theorem(), self.simple_theorem())
-        if word == "INST_TYPE":
-            return (word, self.listed(lambda: self.with_comma(self.type_quotation), 1), self.simple_theorem())
-        self.at -= word in RESERVED
-        return self.simple_theorem()
+        return self.with_parts(word, RULES[word]) if word in RULES else self.simple_theorem()
+
+    def instances(self):
+        return self.listed(lambda: self.with_comma(self.type_quotation), 1)
 
     def arity(self):
         if self.kind() == "number" and int(self.tokens[self.at][1]) > 16:
@@ -293,15 +298,9 @@ class Expressions(Terms):
         word = self.word()
         if word not in COMMANDS:
             self.fail()
-        self.at += 1
-        parts = {
-            "g": (self.name, self.quotation), "e": (self.expression,), "r": (lambda: int(self.take("number")[1]),), "import": (self.name,),
-            "new_type": (self.name, self.arity), "new_constant": (self.name, self.type_quotation), "new_axiom": (self.name, self.quotation),
-            "new_definition": (self.name, self.definition), "deftac": (self.name, self.expression), "b": (), "qed": (), "oops": (),
-        }  # fmt: skip
-        if word not in parts:
+        if COMMANDS[word] is None:
             raise Unmodelled(word)
-        found = (word, *(part() for part in parts[word]))
+        found = self.with_parts(word, COMMANDS[word])
         if self.kind() != "end":
             self.fail()
         return found

@@ -1,6 +1,6 @@
 """Texts of terms, theorems, expressions and commands by chance: mostly such as fit what stands, and some that don't."""
 
-from model.grammar import parsed
+from model.grammar import TACTICALS, parsed
 from model.refusals import Refusal
 from model.showing import term_text
 from model.steps import ARGUMENTS
@@ -27,6 +27,10 @@ CONTINUATIONS = "ACCEPT_TAC MP_TAC ASSUME_TAC STRIP_ASSUME_TAC CONTR_TAC CHOOSE_
 NO_CONTINUATIONS = ["FOO", "ALL_TAC", "CONJ_TAC", "(ACCEPT_TAC TRUTH)", "X_CHOOSE_TAC", "SPEC_TAC", "REWRITE_TAC", "(MP_TAC `T`)", "(X_CHOOSE_TAC `x:bool` TRUTH)"]
 UNKNOWN = ["FOO", "D", "CL", "E", "AX", "TRUTH", "THE_TAC", "D'", "x", "c", "deftac"]
 ON_ASSUMPTIONS = ["POP_ASSUM MP_TAC", "POP_ASSUM STRIP_ASSUME_TAC"] + [f"FIRST_ASSUM {name}_TAC" for name in "STRIP_ASSUME CONTR CHOOSE DISJ_CASES SUBST1 MATCH_MP".split()]
+
+
+# How often a tactical is written beside 25 calls, where it isn't 6 times.
+OFTEN = {"TRY": 8, "REPEAT": 9, "CHANGED_TAC": 5, "FIRST": 9, "REPLICATE_TAC": 5, "DISCH_THEN": 7, "POP_ASSUM": 4, "FIRST_ASSUM": 8, "SUBGOAL_THEN": 4}
 
 
 def in_parentheses(text):
@@ -177,21 +181,16 @@ class Writer:
     def application(self, theory, depth):
         if depth <= 0:
             return self.call(theory)
-        word = self.rng.choices(
-            ["call", "(", "TRY", "REPEAT", "CHANGED_TAC", "EVERY", "FIRST", "REPLICATE_TAC", "DISCH_THEN", "POP_ASSUM", "FIRST_ASSUM", "SUBGOAL_THEN"],
-            [25, 10, 8, 9, 5, 6, 9, 5, 7, 4, 8, 4],
-        )[0]
+        word = self.rng.choices(["call", "(", *TACTICALS], [25, 10, *(OFTEN.get(word, 6) for word in TACTICALS)])[0]
         if word == "call":
             return self.call(theory)
         if word == "(":
             return f"({self.expression(theory, depth - 1)})"
-        if word in ("TRY", "REPEAT", "CHANGED_TAC"):
-            return f"{word} {self.operand(theory, depth - 1)}"
-        if word in ("EVERY", "FIRST"):
-            return f"{word} {self.listed(theory, depth)}"
-        if word == "REPLICATE_TAC":
-            return f"{word} {self.one([0, 1, 2, 3, 5, 9999])} {self.operand(theory, depth - 1)}"
-        return f"{word} {self.quotation(2) + ' ' if word == 'SUBGOAL_THEN' else ''}{self.continuation(theory)}"
+        parts = {
+            "operand": lambda: self.operand(theory, depth - 1), "expressions": lambda: self.listed(theory, depth), "number": lambda: self.one(["0", "1", "2", "3", "5", "9999"]),
+            "quotation": lambda: self.quotation(2), "continuation": lambda: self.continuation(theory),
+        }  # fmt: skip
+        return " ".join([word, *(parts[form]() for form in TACTICALS[word])])
 
     def fitting(self, theory):
         """An expression that fits the first goal, if one is open."""

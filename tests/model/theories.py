@@ -3,7 +3,7 @@
 import collections
 
 from model.expressions import node
-from model.grammar import parsed
+from model.grammar import FORMS, RULES, parsed
 from model.readings import Reading, Untypable, body_of, constructors_written, names_written, type_read, types_written
 from model.refusals import LIMIT, Refusal
 from model.showing import term_text, type_text
@@ -100,14 +100,12 @@ class Resolved:
         if word == "name":
             self.cited.append(parts[0])
             return
-        if word in ("ASSUME", "REFL", "SPEC"):
-            self.quote(parts.pop(0))
-        if word == "INST_TYPE":
-            for pair in parts.pop(0):
-                self.quote(pair[0])
-                self.quote(pair[1])
-        for part in parts:
-            self.theorem(part)
+        for form, part in zip(RULES[word], parts):
+            if form == "simple_theorem":
+                self.theorem(part)
+            else:
+                for quotation in [part] if form == "quotation" else [each for pair in part for each in pair]:
+                    self.quote(quotation)
 
     def arguments(self, written):
         for kind, *parts in written:
@@ -122,18 +120,15 @@ class Resolved:
         word, *parts = written
         if word == "call":
             self.called(*parts)
-        elif word in ("DISCH_THEN", "POP_ASSUM", "FIRST_ASSUM"):
-            self.called(*parts[0], True)
-        elif word == "SUBGOAL_THEN":
-            self.quote(parts[0], True)
-            self.called(*parts[1], True)
-        else:
-            for part in parts:
-                if isinstance(part, tuple):
-                    self.expression(part)
-                elif isinstance(part, list):
-                    for inner in part:
-                        self.expression(inner)
+            return
+        for form, part in zip(FORMS[word], parts):
+            if form == "continuation":
+                self.called(*part, True)
+            elif form == "quotation":
+                self.quote(part, True)
+            else:
+                for inner in part if form == "expressions" else [part] if form == "operand" else []:
+                    self.expression(inner)
 
     # ---- tests, in the order of their numbers in what is refused
 
@@ -296,19 +291,24 @@ class Resolved:
         word, *parts = written
         if word == "call":
             return self.call_of(*parts)
-        if word in ("DISCH_THEN", "POP_ASSUM", "FIRST_ASSUM"):
-            value, key, count = self.continuation_of(parts[0])
-            return node(word, 1 + count, value, key=(key,))
-        if word == "SUBGOAL_THEN":
-            statement = self.values[id(parts[0])]
-            value, key, count = self.continuation_of(parts[1])
-            return node(word, 2 + size(statement) + count, statement, value, key=(statement, key))
         found, count = [], 1
-        for part in parts:
-            inner = [] if isinstance(part, int) else [self.expression_of(each) for each in (part if isinstance(part, list) else [part])]
-            count += sum(each.size for each in inner)
-            found.append(part if isinstance(part, int) else tuple(inner) if isinstance(part, list) else inner[0])
-        return node(word, count, *found)
+        for value, key, own in map(self.part_of, FORMS[word], parts):
+            found.append((value, key))
+            count += own
+        return node(word, count, *(value for value, _ in found), key=[key for _, key in found])
+
+    def part_of(self, form, part):
+        """A part of an expression, as it is compared, and what it counts."""
+        if form == "continuation":
+            return self.continuation_of(part)
+        if form == "quotation":
+            statement = self.values[id(part)]
+            return statement, statement, 1 + size(statement)
+        if form == "number":
+            return part, part, 0
+        inner = tuple(map(self.expression_of, part if form == "expressions" else [part]))
+        value = inner if form == "expressions" else inner[0]
+        return value, value, sum(each.size for each in inner)
 
     def call_of(self, name, arguments):
         if name not in ARGUMENTS:

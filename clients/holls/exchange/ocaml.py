@@ -5,16 +5,23 @@ from __future__ import annotations
 import re
 from typing import Callable, Dict, FrozenSet, List, NamedTuple, Optional, Sequence
 
-from holls import notation
+from holls import manual, notation
 
 _TOKEN = re.compile(r"`[^`]*`|[A-Za-z_][A-Za-z0-9_']*|[0-9]+|[()\[\];,]")
 _SYMBOL = re.compile(r"[A-Za-z_][A-Za-z0-9_']*|<=>|==>|\\/|/\\|->|\?!|\S")
 _NAME = re.compile(r"[A-Za-z_][A-Za-z0-9_']*\Z")
-_ONE = frozenset(("REPEAT", "TRY", "CHANGED_TAC"))
-_MANY = frozenset(("EVERY", "FIRST"))
-_BY_THEOREM = frozenset(("DISCH_THEN", "POP_ASSUM", "FIRST_ASSUM"))
-_RULES: Dict[str, int] = {"SYM": 0, "CONJUNCT1": 0, "CONJUNCT2": 0, "MP": 0}
-_ENDS = frozenset((")", "]", ";", ",", "THEN", "THENL", "ORELSE"))
+
+
+def _taking(entries: Dict[str, manual.Entry], arguments: str) -> FrozenSet[str]:
+    """The words that take these arguments and nothing else."""
+    return frozenset(name for name, entry in entries.items() if entry.arguments == arguments)
+
+
+_ONE = _taking(manual.PREFIXES, "tac")
+_MANY = _taking(manual.PREFIXES, "[tac; ..]")
+_BY_THEOREM = _taking(manual.HANDING, "tac")
+_RULES = _taking(manual.RULES, "th")
+_ENDS = frozenset((")", "]", ";", ",", *manual.INFIXES))
 
 
 class Unwritable(Exception):

@@ -17,10 +17,10 @@ from holls.lsp import features, lookup
 from holls.lsp.navigation import Navigation
 from holls.lsp.workspace import Document
 from holls.names import IN_TERMS, TYPE, Known
-from holls.packages.datatypes import RESERVED
 from holls.packages.scope import INDUCT, SPLIT
 from holls.packages.steps import outside
 from holls.packages.terms import LOGIC
+from holls.protocol import RESERVED
 from holls.text import Command
 
 _NAME = re.compile(r"[A-Za-z_][A-Za-z0-9_']*\Z")

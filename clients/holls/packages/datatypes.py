@@ -11,17 +11,16 @@ import re
 from dataclasses import replace
 from typing import AbstractSet, Dict, List, NamedTuple, Optional, Tuple
 
-from holls.notation import FORWARD, TACTICALS
 from holls.packages.forms import DEFINE_TYPE as FORM
 from holls.packages.parsing import Place
 from holls.packages.scope import INDUCT, SPLIT, Asking, Constructor, Data
 from holls.packages.terms import LOGIC, Type, tyvars
+from holls.protocol import RESERVED
 from holls.surface.errors import Misread
 from holls.surface.reader import Reader
 from holls.surface.tokens import END, NUMBER, WORD
 from holls.surface.tree import Type as WrittenType
 
-RESERVED = frozenset((*TACTICALS, *FORWARD))
 MOST_CONSTRUCTORS = 64
 _MUTUAL = ("types that are defined by one another aren't given: make one type of the constructors of all, with a relation (inductive) that says what is of which; "
            "or, where one is of lists of the other, write (t list) in its place")

@@ -13,7 +13,7 @@ from typing import Dict, List, Mapping, NamedTuple, Optional, Sequence, Set, Tup
 from holls.packages import measures
 from holls.packages.calls import calls
 from holls.packages.clauses import Clause, ClauseReader, Function, error
-from holls.packages.datatypes import RESERVED, argument_names
+from holls.packages.datatypes import argument_names
 from holls.packages.forms import DEFINE as FORM
 from holls.packages.matching import (MOST_LEAVES, Decisions, case_term, constructor_types, is_shadowed, leaf_statement, matched, splits)
 from holls.packages.numerals import RULES, norm, of_numeral
@@ -25,6 +25,7 @@ from holls.packages.recursion import primitive
 from holls.packages.scope import Asking
 from holls.packages.terms import Term, app, binder, conj, const, eq, exists, fresh, forall, same, spine, strip, subst, term_tyvars, tyshow, tyvars, var
 from holls.packages.type_commands import need_cases
+from holls.protocol import RESERVED
 from holls.surface.errors import Misread
 
 

@@ -4,11 +4,11 @@ if exists('b:current_syntax')
 endif
 syntax case match
 syntax iskeyword @,48-57,_,'
-syntax keyword holCommand g e b r qed oops import deftac new_type new_constant new_axiom new_definition new_basic_type_definition
+syntax keyword holCommand g e b r qed oops import new_type new_constant new_axiom new_definition new_basic_type_definition deftac
 syntax keyword holTactical THEN THENL ORELSE REPEAT TRY CHANGED_TAC EVERY FIRST REPLICATE_TAC DISCH_THEN POP_ASSUM FIRST_ASSUM SUBGOAL_THEN
 syntax match holTactic /\<[A-Z0-9_]*_TAC\>/
 syntax match holEnd /;;/
-syntax match holDeclaration /\%(\%(^\|;;\)\s*\)\@<=\%(local\s\+\)\?\%(infixr\|infixl\|type_infixr\|notation\|sets\|no_notation\|define_type\|define\|inductive\|record\|specification\|abbreviate\|theorems\|let\|simp\|sorry\)\>/
+syntax match holDeclaration /\%(\%(^\|;;\)\s*\)\@<=\%(local\s\+\)\?\%(infixr\|infixl\|type_infixr\|notation\|sets\|abbreviate\|no_notation\|define_type\|define\|inductive\|record\|specification\|theorems\|let\|simp\|sorry\)\>/
 syntax region holTerm matchgroup=holQuote start=/`/ end=/`/ contains=holComment,holSymbol,holConstant,holNumber,holBracket,holWord
 syntax match holSymbol "[-+*/<>=&|^%#$~\\!?@.:,]\+\|[∀∃λε∧∨¬⇒⟹⇔⟺→∈∪∩∖⊆⊂∅≤≥×∘]" contained
 syntax match holBracket /[][{};]/ contained
