@@ -124,7 +124,11 @@ class File:
         """The same file, which no edit of this one changes."""
         other = File(self.path)
         other._imported, other.refused = self._imported, self.refused
-        other.take(self.lines.text)
+        other.take(self.lines.text, self.lines)
+        other._cut = self._cut
+        if self._notation is not None:  # What is read of a text stays as it is: a change has another one.
+            other._notation, other._read_by, other._starts = self._notation, self._read_by, self._starts
+            other._want()
         return other
 
     @property

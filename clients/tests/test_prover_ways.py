@@ -256,7 +256,7 @@ class Commands(unittest.TestCase):
         for above, wanted in (("", None), ("new_axiom CZ `C = _0`;;\n", ["e ACCEPT_TAC CZ"]), ("", None), ("new_axiom CY `C = _0`;;\n", ["e ACCEPT_TAC CY"])):
             (self.folder / "mine.hol").write_text("import numbers;;\nnew_constant C `:num`;;\n%sg A `C = _0`;;\n" % above)
             unit = command.unit(str(self.folder / "mine.hol"))
-            answer = warm.search(Request(unit.file, len(unit.file.commands) - 1, unit.imports, (), None, 1.0 if wanted is None else 30.0))
+            answer = warm.search(Request(unit.file, len(unit.file.commands) - 1, unit.imports, names=None, seconds=1.0 if wanted is None else 30.0))
             self.assertEqual(answer.steps, wanted)
 
     def test_several_proofs_are_told_the_shortest_first(self):

@@ -219,7 +219,7 @@ def offers(bridge: "Bridge", document: "Document", files: List[File], start: int
         return []
     if bridge.program is not None:
         warm = bridge.searches.of(document.project.key, bridge.program.words, not bridge.limits.is_held)
-        threading.Thread(target=_prepare, args=(warm, _imports(document, files)), daemon=True).start()
+        threading.Thread(target=_prepare, args=(warm, _imports(warm, document, files)), daemon=True).start()
     known = goals.state(file, number)
     first = (known.plain or known).goals.goals[0]
     is_number = _NUMBERS.search(" ".join((first.conclusion,) + first.assumptions))
@@ -261,9 +261,9 @@ def _prepare(warm: Warm, imports: List[File]) -> None:
         pass  # The search says so.
 
 
-def _imports(document: "Document", files: List[File]) -> List[File]:
+def _imports(warm: Warm, document: "Document", files: List[File]) -> List[File]:
     by_name = {file.name: file for file in files}
-    return [other.copy() for other in graph.all_imports(document.file, by_name)]
+    return [warm.copy(other) for other in graph.all_imports(document.file, by_name)]
 
 
 def _open_at(file: File, place: int) -> Optional[int]:
@@ -283,8 +283,9 @@ def begin(bridge: "Bridge", document: "Document", files: List[File], number: int
         raise NotFound("the text has changed")
     paths = command.paths_of(document.project)
     wanted = Wanted.of(document.file, number)
-    search = Search(document.uri, document.file.copy(), _imports(document, files), paths, number, wanted, kind == _ARITHMETIC, kind == _SIMPLER)
     warm = bridge.searches.of(document.project.key, bridge.program.words, not bridge.limits.is_held)
+    imports = _imports(warm, document, files)
+    search = Search(document.uri, document.file.copy(), imports, paths, number, wanted, kind == _ARITHMETIC, kind == _SIMPLER)
 
     def work() -> None:
         search.run(warm, bridge)

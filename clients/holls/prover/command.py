@@ -7,16 +7,16 @@ import json
 import os
 import re
 import sys
-from typing import Any, Dict, List, Optional, Sequence
+from typing import Any, Dict, List, Optional, Sequence, Set
 
-from holls import check, checking, graph, server
+from holls import check, checking, declaring, graph, server
 from holls.checking import Unit
-from holls.files import File
+from holls.files import File, theory_name
 from holls.projects import Project, Projects
 from holls.prover import serving, trying
 from holls.prover.asking import Silent
 from holls.prover.finder import Unprovable
-from holls.prover.warm import Answer, NoGoal, Request, Warm
+from holls.prover.warm import Answer, NoGoal, Others, Request, Warm
 from holls.surface.translation import in_notation
 
 NONE, BROKEN = 1, 2
@@ -176,17 +176,21 @@ def paths_of(project: Project) -> List[str]:
     return [found for found in map(project.find, project.names()) if isinstance(found, str)]
 
 
-def others(file: File, imports: Sequence[File], paths: Optional[Sequence[str]] = None) -> List[File]:
-    """The project's files, or those of some paths, that a file doesn't import and that don't import it, each behind its imports."""
-    found = paths_of(Projects().of(file.path)) if paths is None else paths
+def others(file: File, imports: Sequence[File], paths: Optional[Sequence[str]] = None) -> Others:
+    """The project's files, or those of some paths, that a file doesn't import and that don't import it."""
+    found = (paths_of(Projects().of(file.path)) if paths is None else list(paths))[:_MOST_OTHERS]
+    known = {one.name for one in imports} | declaring.importers(found, file.name)
+    return Others(frozenset(map(theory_name, found)) - known, lambda: _read(found, known, file.name))
+
+
+def _read(paths: Sequence[str], known: Set[str], name: str) -> List[File]:
+    """The files of some paths but those that are known, each behind its imports."""
     try:
-        every = [one for files in check.ordered(found[:_MOST_OTHERS]).values() for one in files]
+        every = [one for files in check.ordered(paths).values() for one in files]
     except check.CannotCheck:
         return []
     by_name = {one.name: one for one in every}
-    known = {one.name for one in imports} | {file.name}
-    return [one for one in every if one.is_sent and one.name not in known
-            and all(other.name != file.name for other in graph.all_imports(one, by_name))]
+    return [one for one in every if one.is_sent and one.name not in known and all(other.name != name for other in graph.all_imports(one, by_name))]
 
 
 def in_notation_at(file: File, number: int, step: str) -> str:

@@ -7,6 +7,7 @@ was refused, is left out.
 from __future__ import annotations
 
 import re
+from functools import lru_cache
 from typing import Dict, FrozenSet, Iterator, List, Optional, Sequence, Set
 
 from holls import manual, names
@@ -39,16 +40,17 @@ class Scope:
         self.simple: Dict[str, None] = {}
         self.definitions: Dict[str, str] = {"ONE_ONE": "ONE_ONE", "ONTO": "ONTO"}
         self._facts: Dict[str, Fact] = {}
-        for name, text in manual.PRELUDE.items():
-            self.theorems[name] = reading.term(text, self.signature)
+        self.theorems.update(_prelude())
 
-    def add_file(self, file: File, before: Optional[int] = None) -> None:
-        """Takes what a file makes, or what stands before one of its commands; of the theory of arithmetic no functions, which have a use of
-        their own."""
+    def add_file(self, file: File, before: Optional[int] = None, after: int = 0) -> None:
+        """Takes what a file makes, or what stands before one of its commands and isn't among so many first ones; of the theory of arithmetic no
+        functions, which have a use of their own."""
         self.simple.update(file.notation.simple)
         for first, last in names.blocks(file):
             if before is not None and last >= before:
                 break
+            if first < after:
+                continue
             command = file.commands[first]
             is_left_out = command.word == "deftac" and file.name == ARITHMETIC
             if is_left_out or command.word == "g" and file.commands[last].text != "qed":
@@ -165,6 +167,12 @@ class Scope:
         """The theorems that define constants of some terms."""
         wanted = frozenset(constant[1] for term in terms for constant in typed.constants(term))
         return [name for name, constant in self.definitions.items() if constant in wanted and name in self.theorems]
+
+
+@lru_cache(None)
+def _prelude() -> Dict[str, Term]:
+    """The prelude's theorems."""
+    return {name: reading.term(text, Signature()) for name, text in manual.PRELUDE.items()}
 
 
 def _defined(statement: Term) -> Term:

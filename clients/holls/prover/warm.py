@@ -3,12 +3,13 @@
 from __future__ import annotations
 
 import threading
+from functools import cached_property
 from typing import Callable, Dict, FrozenSet, List, NamedTuple, Optional, Sequence, Tuple
 
 from holls import graph, protocol
 from holls import names as names_of
 from holls.files import File
-from holls.protocol import Goals, Refusal
+from holls.protocol import Goals, Made, Refusal
 from holls.prover import arithmetic, clock, reading, trying
 from holls.prover.asking import Asker, Silent
 from holls.prover.finder import Finder, Tell
@@ -28,6 +29,9 @@ _SHARE, _SHARE_WITHOUT_ARITHMETIC = 0.6, 0.25
 """The part of the time for the theories that are imported; and where the goal is about numbers, and the theory of arithmetic isn't."""
 _LEAST_SECONDS = 1.0
 _MOST_SCOPES = 200
+_MOST_ASKED = 100
+"""Of so many commands the reports are asked for; of more the list of all theorems is."""
+_Imports = Tuple[Tuple[str, int], ...]
 _STEPS = ("e", "b", "r")
 """The commands that make nothing that stands behind a proof."""
 _MORE = 0.3
@@ -49,16 +53,28 @@ class Answer(NamedTuple):
     others: Tuple[Tuple[str, ...], ...] = ()
 
 
+class Others:
+    """The theories that a file might import, by their names; and their files, each behind its imports, which are read where a search needs them."""
+
+    def __init__(self, names: FrozenSet[str] = frozenset(), read: Callable[[], List[File]] = list) -> None:
+        self.names, self._read = names, read
+
+    @cached_property
+    def files(self) -> List[File]:
+        """The files."""
+        return self._read() if self.names else []
+
+
 class Request(NamedTuple):
-    """A goal that is open behind a command of a file: the first one. `imports` are the files that the file imports, in order, `others` files that it
-    might import, each behind its imports. Of the theorems `names` alone are to be taken first, if any are given; by arithmetic alone is tried
+    """A goal that is open behind a command of a file: the first one. `imports` are the files that the file imports, in order, `others` those that it
+    might import. Of the theorems `names` alone are to be taken first, if any are given; by arithmetic alone is tried
     where that is said, and with `is_simplifying` what makes the goal simpler is answered, whether it closes it or not. With `first` other proofs are
     looked for too, and it is told the first one at once."""
 
     file: File
     number: int
     imports: Sequence[File]
-    others: Sequence[File] = ()
+    others: Others = Others()
     names: Optional[Sequence[str]] = None
     seconds: float = 5.0
     is_arithmetic: bool = False
@@ -75,8 +91,11 @@ class Warm:
         self._lock = threading.Lock()
         self._asker: Optional[Asker] = None
         self._standing: List[Tuple[str, List[str]]] = []
-        self._scopes: Dict[Tuple[Tuple[str, int], ...], Scope] = {}
+        self._scopes: Dict[_Imports, Scope] = {}
         self._known: Tuple[object, Optional[Knowledge]] = None, None
+        self._theorems: Optional[_Accepted] = None
+        self._above: Optional[_Above] = None
+        self._copies: Dict[str, Tuple[object, File]] = {}
 
     def stop(self) -> None:
         """Ends the server."""
@@ -87,6 +106,15 @@ class Warm:
         if self._asker is not None:
             self._asker.stop()
         self._asker, self._standing = None, []
+
+    def copy(self, file: File) -> File:
+        """A file that is imported, as it is now: one and the same copy for all searches until it changes."""
+        kept = self._copies.get(file.path)
+        if kept is None or kept[0] is not file.notation:
+            if len(self._copies) > _MOST_SCOPES:
+                self._copies.clear()
+            self._copies[file.path] = kept = file.notation, file.copy()
+        return kept[1]
 
     def prepare(self, imports: Sequence[File]) -> None:
         """Has theories stand, so that a search begins at once, unless it has something to do already. Silent as for `search`."""
@@ -121,9 +149,11 @@ class Warm:
         try:
             goals, accepted = _open_goals(asker, request.file, request.number)
             written = names_of.quoted(request.file.commands[request.file.proof_begin(accepted)])
-            known = self._knowledge(request, frozenset(asker.theorems()))
+            first = request.file.proof_begin(accepted)
+            begin = request.file.slot(first)
+            known = self._knowledge(request, first, texts if begin is None else texts[:begin])
             standing = known.scope
-            place = _Place(asker, standing, goals, written, texts, request.file.slot(request.file.proof_begin(accepted)) or 0)
+            place = _Place(asker, standing, goals, written, texts, begin or 0)
             until = clock.now() + request.seconds
             finder = Finder(asker, standing, goals, written, clock.now() + self._share(request, place) * request.seconds, known)
             finder.tell = request.tell
@@ -147,23 +177,46 @@ class Warm:
         request.first(Answer(found, accepted))
         return tuple(map(tuple, finder.others(found, _MORE * request.seconds)))
 
-    def _knowledge(self, request: Request, theorems: FrozenSet[str]) -> Knowledge:
-        """What is known of the theorems that stand at a request's place. It is kept for those behind which nothing more is made."""
-        slots = (request.file.slot(at) for at in range(request.number + 1))
-        last = max((slot for slot in slots if slot is not None), default=-1)
-        made = [entry.sent for entry in request.file.theory.entries[:last + 1] if entry.sent.split(" ", 1)[0] not in _STEPS]
-        key = _key(request.imports), hash(tuple(made)), tuple(request.file.notation.simple), theorems
+    def _knowledge(self, request: Request, first: int, above: Sequence[str]) -> Knowledge:
+        """What is known of the theorems that stand at a request's place: those of the imports and of the commands above its proof. It is kept for those
+        behind which nothing more is made."""
+        imports = _key(request.imports)
+        theorems = self._accepted(imports, above)
+        made = [text for text in above if text.split(" ", 1)[0] not in _STEPS]
+        key = imports, hash(tuple(made)), tuple(request.file.notation.simple), theorems
         if self._known[1] is None or self._known[0] != key:
-            standing = self._imported(request.imports).copy()
-            standing.add_file(request.file, request.number + 1)
+            standing = self._read_above(request, first).copy()
             standing.keep(theorems)
             self._known = key, Knowledge(standing)
         return self._known[1]
 
+    def _accepted(self, imports: _Imports, above: Sequence[str]) -> FrozenSet[str]:
+        """The theorems that stand behind commands of the copy: of those behind which they were asked for the last time only the others are."""
+        last = self._theorems
+        number = len(last.texts) if last is not None and last.imports == imports and list(above[:len(last.texts)]) == last.texts else 0
+        if not number or len(above) - number > _MOST_ASKED or any(text.startswith("import") for text in above[number:]):
+            found = frozenset(self._asker.theorems())
+        else:
+            reports = [self._asker.report(at) for at in range(number, len(above))]
+            entries = [entry.split(" ", 2) for report in reports if isinstance(report, Made) for entry in report.entries]
+            found = last.names.union(words[1] for words in entries if words[0] == "thm")
+        self._theorems = _Accepted(imports, list(above), found)
+        return found
+
+    def _read_above(self, request: Request, first: int) -> Scope:
+        """What the imports and the commands above a proof make; what was read for a proof above it isn't read again."""
+        imports, texts = _key(request.imports), [command.text for command in request.file.commands[:first]]
+        last = self._above
+        number = len(last.texts) if last is not None and last.imports == imports and texts[:len(last.texts)] == last.texts else 0
+        made = (last.scope if last is not None and number else self._imported(request.imports)).copy()
+        made.add_file(request.file, first, number)
+        self._above = _Above(imports, texts, made)
+        return made
+
     @staticmethod
     def _share(request: Request, place: "_Place") -> float:
         """The part of the time for what is imported."""
-        if not request.others or request.names:
+        if not request.others.names or request.names:
             return 1.0
         is_lacking = arithmetic.NEEDED not in place.standing.theorems and _has_arithmetic(request) and arithmetic.concerns(place.terms())
         return _SHARE_WITHOUT_ARITHMETIC if is_lacking else _SHARE
@@ -202,14 +255,14 @@ class Warm:
 
     def _further(self, request: Request, place: "_Place") -> List[str]:
         """The theories that aren't imported and have theorems that are likely to help, the likeliest first."""
-        if not request.others:
+        if not request.others.files:
             return []
         terms, found = place.terms(), {}
-        if arithmetic.concerns(terms) and _has_arithmetic(request):
+        if arithmetic.concerns(terms) and any(file.name == ARITHMETIC for file in request.others.files):
             found[ARITHMETIC] = None
         if not request.is_arithmetic:
-            every = self._imported(list(request.imports) + list(request.others))
-            theory = {one.name: file.name for file in request.others for one in names_of.written(file) if one.name in every.theorems}
+            every = self._imported(list(request.imports) + request.others.files)
+            theory = {one.name: file.name for file in request.others.files for one in names_of.written(file) if one.name in every.theorems}
             premises = Premises([every.fact(name) for name in every.theorems], frozenset(reading.PRELUDE))
             found.update(dict.fromkeys(theory[name] for name in premises.chosen(terms, _CHOSEN) if name in theory))
         return list(found)[:_MOST_NEW]
@@ -247,6 +300,22 @@ class Warm:
         return tuple(needed)
 
 
+class _Above(NamedTuple):
+    """What some imports and the first commands of a file make."""
+
+    imports: _Imports
+    texts: List[str]
+    scope: Scope
+
+
+class _Accepted(NamedTuple):
+    """The theorems that stand behind some imports and the first commands of a file, as they are sent."""
+
+    imports: _Imports
+    texts: List[str]
+    names: FrozenSet[str]
+
+
 class _Place(NamedTuple):
     """A goal in a copy: the commands up to it, and the place among them of the one that begins its proof."""
 
@@ -270,19 +339,19 @@ class _Place(NamedTuple):
         return self.texts[:self.begin] + ["import " + name for name in names] + self.texts[self.begin:]
 
 
-def _key(files: Sequence[File]) -> Tuple[Tuple[str, int], ...]:
+def _key(files: Sequence[File]) -> _Imports:
     """What decides what some files make."""
     return tuple((file.name, hash(tuple(entry.sent for entry in file.theory.entries))) for file in files)
 
 
 def _has_arithmetic(request: Request) -> bool:
     """Whether the theory of arithmetic could be imported."""
-    return any(file.name == ARITHMETIC for file in request.others)
+    return ARITHMETIC in request.others.names
 
 
 def _behind_imports(names: Sequence[str], request: Request) -> List[File]:
     """The files of some theories and of those that they import, in order."""
-    every = list(request.imports) + list(request.others)
+    every = list(request.imports) + request.others.files
     by_name = {file.name: file for file in every}
     wanted = {file.name for name in names for file in graph.ordered_from(by_name[name], by_name)}
     return [file for file in every if file.name in wanted]
