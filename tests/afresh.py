@@ -282,6 +282,7 @@ def try_changes(given):
         with tempfile.TemporaryDirectory() as room:
             copy = pathlib.Path(room) / "tests"
             shutil.copytree(HERE, copy, ignore=shutil.ignore_patterns("__pycache__", "sessions"))
+            (pathlib.Path(room) / "docs").symlink_to(HERE.parent / "docs")
             text = (copy / "model" / file).read_text(encoding="utf-8")
             (copy / "model" / file).write_text(text.replace(old, new), encoding="utf-8")
             words = ["--program", given.program, "--form", form, "--turns", str(turns), "--documents", str(given.documents)]

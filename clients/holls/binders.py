@@ -32,7 +32,7 @@ class _Name(NamedTuple):
     binder: Optional[int]
 
 
-def _name(text: str, place: int) -> Optional[_Name]:
+def _name_in_term(text: str, place: int) -> Optional[_Name]:
     """The name at a place of a command's text, where it stands in a quotation; of a type's there is none."""
     opened = text.rfind("`", 0, place)
     if opened < 0 or text.count("`", 0, place) % 2 == 0:
@@ -51,24 +51,24 @@ def _name(text: str, place: int) -> Optional[_Name]:
 
 def is_in_type(text: str, place: int) -> bool:
     """Whether the name at a place of a command's text, which is in a quotation, is a type's."""
-    return _name(text, place) is None
+    return _name_in_term(text, place) is None
 
 
 def is_bound(text: str, place: int) -> bool:
     """Whether the name at a place of a command's text is a variable that a binder binds."""
-    found = _name(text, place)
+    found = _name_in_term(text, place)
     return found is not None and found.binder is not None
 
 
 def names(text: str, place: int) -> FrozenSet[str]:
     """The names in the quotation that a place of a command's text is in."""
-    found = _name(text, place)
+    found = _name_in_term(text, place)
     return frozenset(token.text for token in found.tokens) if found else frozenset()
 
 
 def question(text: str, place: int) -> Optional[str]:
     """The command whose report tells the type of the variable at a place of a command's text; None where no variable stands there."""
-    found = _name(text, place)
+    found = _name_in_term(text, place)
     if found is None:
         return None
     term, name = found.term, found.tokens[found.at].text

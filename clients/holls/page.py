@@ -37,11 +37,12 @@ REQUEST_SECONDS = 10
 SILENT_SECONDS = 60
 """So long a page may be silent, which is asked again and again meanwhile, or may leave unread what it is sent."""
 
-_KINDS = {
+KINDS = {
     ".html": "text/html; charset=utf-8", ".css": "text/css; charset=utf-8", ".js": "text/javascript; charset=utf-8",
     ".svg": "image/svg+xml", ".hol": "text/plain; charset=utf-8",
 }
-_POLICY = "default-src 'self'; connect-src 'self' ws://%s; base-uri 'none'; form-action 'none'; frame-ancestors 'none'"
+"""The kinds of files that a page has."""
+POLICY = "default-src 'self'; connect-src 'self' %s; base-uri 'none'; form-action 'none'; frame-ancestors 'none'"
 
 
 class Pages(ThreadingHTTPServer):
@@ -141,14 +142,14 @@ class _Request(BaseHTTPRequestHandler):
 
     def _answer(self, folder: Optional[Path], name: str) -> None:
         """A file of a folder, of the kinds that are served."""
-        kind = _KINDS.get(Path(name).suffix)
+        kind = KINDS.get(Path(name).suffix)
         if folder is None or kind is None or Path(name).name != name or not (folder / name).is_file():
             self._fail(HTTPStatus.NOT_FOUND)
             return
         data = (folder / name).read_bytes()
         self.send_response(HTTPStatus.OK)
         for key, value in (("Content-Type", kind), ("Content-Length", str(len(data))), ("Cache-Control", "no-cache"),
-                           ("Content-Security-Policy", _POLICY % self.headers["Host"]), ("X-Content-Type-Options", "nosniff")):
+                           ("Content-Security-Policy", POLICY % ("ws://%s" % self.headers["Host"])), ("X-Content-Type-Options", "nosniff")):
             self.send_header(key, value)
         self.end_headers()
         self.wfile.write(data)

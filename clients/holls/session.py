@@ -18,7 +18,7 @@ from holls import protocol
 from holls.difference import INSERT, REPLACE
 from holls.server import Ended, Events, Lines, NoServer, Server
 from holls.sweep import Sweep
-from holls.theory import DROP, NEW, Change, Entry, Job, Standing, Theory
+from holls.theory import DROP, NEW, Change, Entry, Standing, Theory
 
 SLOW_SECONDS = 5.0
 """A command that runs longer is marked."""

@@ -13,10 +13,10 @@ from typing import Any, Dict, FrozenSet, Iterator, List, Optional, Tuple
 Tree = Any
 
 _TOKEN = re.compile(r"\s*([A-Za-z_][A-Za-z0-9_']*|\?[0-9]+|<=>|==>|\\/|/\\|->|\?!|[=~\\!?@().:,])")
-_BINDERS = frozenset(("\\", "!", "?", "?!", "@"))
-_LEVELS = {"<=>": 0, "==>": 1, "\\/": 2, "/\\": 3, "=": 4}
+BINDERS = frozenset(("\\", "!", "?", "?!", "@"))
+LEVELS = {"<=>": 0, "==>": 1, "\\/": 2, "/\\": 3, "=": 4}
 """The infixes from what binds loosest; all group to the right."""
-_OPERATORS = frozenset(("<=>", "==>", "\\/", "/\\", "=", "~", "!", "?", "?!", "@"))
+OPERATORS = frozenset(("~", "!", "?", "?!", "@", *LEVELS))
 _MOST_DEPTH = 150
 
 
@@ -28,7 +28,7 @@ class _Reader:
     """Reads one text by recursive descent."""
 
     def __init__(self, text: str) -> None:
-        self.tokens = _tokens(text)
+        self.tokens = tokens(text)
         self.at = 0
         self.bound: List[str] = []
         self.depth = 0
@@ -48,7 +48,7 @@ class _Reader:
         left = self.prefix()
         while True:
             name = self.peek()
-            level = _LEVELS.get(name, -1)
+            level = LEVELS.get(name, -1)
             if level < loosest:
                 return left
             self.take()
@@ -67,7 +67,7 @@ class _Reader:
         if token == "~" and self.next_is_term():
             self.take()
             found = ("app", "~", self.prefix())
-        elif token in _BINDERS and self.next_is_term():
+        elif token in BINDERS and self.next_is_term():
             found = self.binder(self.take())
         else:
             found = self.application()
@@ -113,7 +113,7 @@ class _Reader:
     def atom(self) -> Tree:
         token = self.take()
         if token == "(":
-            if self.peek() in _OPERATORS and self.tokens[self.at + 1:self.at + 2] == [")"]:
+            if self.peek() in OPERATORS and self.tokens[self.at + 1:self.at + 2] == [")"]:
                 name = self.take()
                 self.take(")")
                 return "=" if name == "<=>" else name
@@ -128,7 +128,8 @@ class _Reader:
         return token
 
 
-def _tokens(text: str) -> List[str]:
+def tokens(text: str) -> List[str]:
+    """The tokens of a term's text."""
     found, at = [], 0
     text = text.rstrip()
     while at < len(text):

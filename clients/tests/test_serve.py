@@ -77,12 +77,12 @@ class Parts(unittest.TestCase):
 
     def test_the_page_of_a_course_has_links_that_hold_the_exercises_and_no_markup_of_a_text(self):
         course = layout.read(str(COURSE))
-        found = dict(re.findall(r'href="\./#theory=(\w+)\.([\w-]+)"', command.exercises(course, "Ann")))
+        found = dict(re.findall(r'href="\./#theory=(\w+)\.([\w-]+)"', command.exercises_page(course, "Ann")))
         self.assertEqual(list(found), ["implications", "equations", "quantifiers"])
         data = found["equations"]
         self.assertEqual(zlib.decompress(base64.urlsafe_b64decode(data + "=" * (-len(data) % 4)), -15).decode(), course.files[1].text)
         named = layout.Course("", "<script>", course.files, (), ())
-        self.assertNotIn("<script", command.exercises(named, "<script>"))
+        self.assertNotIn("<script", command.exercises_page(named, "<script>"))
 
     def test_who_has_stood_the_longest_comes_first_and_no_name_is_markup(self):
         now = [0.0]

@@ -1,6 +1,8 @@
 """What stands in a theory, and what a command makes of what it writes: names that are looked up, readings, theorems by rules, and expressions."""
 
 import collections
+import pathlib
+import re
 
 from model.expressions import node
 from model.grammar import FORMS, RULES, parsed
@@ -10,29 +12,9 @@ from model.showing import term_text, type_text
 from model.steps import ARGUMENTS, Theorem
 from model.terms import BOOL, PRELUDE_CONSTANTS, PRELUDE_TYPES, aconv, body_at, constants_in, equation, nameless, sides, size, type_of, type_size, types_put, under
 
-PRELUDE_TEXTS = {
-    "T_DEF": r"T = ((\p:bool. p) = (\p. p))",
-    "AND_DEF": r"(/\) = (\p q. (\f:bool->bool->bool. f p q) = (\f. f T T))",
-    "IMP_DEF": r"(==>) = (\p q. p /\ q <=> p)",
-    "FORALL_DEF": r"(!) = (\P:A->bool. P = (\x. T))",
-    "EXISTS_DEF": r"(?) = (\P:A->bool. !q. (!x. P x ==> q) ==> q)",
-    "OR_DEF": r"(\/) = (\p q. !r. (p ==> r) ==> (q ==> r) ==> r)",
-    "F_DEF": r"F = (!p. p)",
-    "NOT_DEF": r"(~) = (\p. p ==> F)",
-    "EXISTS_UNIQUE_DEF": r"(?!) = (\P:A->bool. (?) P /\ (!x y. P x /\ P y ==> x = y))",
-    "ETA_AX": r"!t:A->B. (\x. t x) = t",
-    "SELECT_AX": r"!(P:A->bool) x. P x ==> P ((@) P)",
-    "ONE_ONE": r"!f:A->B. ONE_ONE f <=> (!x1 x2. f x1 = f x2 ==> x1 = x2)",
-    "ONTO": r"!f:A->B. ONTO f <=> (!y. ?x. y = f x)",
-    "INFINITY_AX": r"?f:ind->ind. ONE_ONE f /\ ~ONTO f",
-    "TRUTH": r"T",
-    "REFL_CLAUSE": r"!x:A. x = x <=> T",
-    "EQ_CLAUSES": r"!t. ((T <=> t) <=> t) /\ ((t <=> T) <=> t) /\ ((F <=> t) <=> ~t) /\ ((t <=> F) <=> ~t)",
-    "NOT_CLAUSES_WEAK": r"(~T <=> F) /\ (~F <=> T)",
-    "AND_CLAUSES": r"!t. (T /\ t <=> t) /\ (t /\ T <=> t) /\ (F /\ t <=> F) /\ (t /\ F <=> F) /\ (t /\ t <=> t)",
-    "OR_CLAUSES": r"!t. (T \/ t <=> T) /\ (t \/ T <=> T) /\ (F \/ t <=> t) /\ (t \/ F <=> t) /\ (t \/ t <=> t)",
-    "IMP_CLAUSES": r"!t. (T ==> t <=> t) /\ (t ==> T <=> T) /\ (F ==> t <=> T) /\ (t ==> t <=> T) /\ (t ==> F <=> ~t)",
-}
+# The prelude's theorems with their statements, as docs/NOTATION.md lists them.
+NOTATION = pathlib.Path(__file__).resolve().parents[2] / "docs" / "NOTATION.md"
+PRELUDE_TEXTS = dict(re.findall(r"^\| ([A-Z0-9_]+) \| `([^`]*)` \|$", NOTATION.read_text(encoding="utf-8"), re.M))
 PRELUDE_THEOREMS = {name: Reading(PRELUDE_CONSTANTS, PRELUDE_TYPES).of(parsed(f"g N `{text}`")[2]) for name, text in PRELUDE_TEXTS.items()}
 PRELUDE = {"type": PRELUDE_TYPES, "const": PRELUDE_CONSTANTS, "thm": PRELUDE_THEOREMS, "tac": ARGUMENTS}
 

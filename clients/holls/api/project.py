@@ -364,7 +364,7 @@ class Theory:
                 reports = engine.reports(self.context)
                 for entry, report in zip(file.theory.entries, reports):
                     entry.report = report if isinstance(report, (Goals, Made, Refusal)) else Lost("hol_serve had no memory to show it")
-                made = [text for entry in file.theory.entries for text in _own_theorems(entry.text, entry.report)]
+                made = [text for entry in file.theory.entries for text in _theorems_made(entry.text, entry.report)]
                 bases = engine.bases(self.context, [text.split(" ", 2)[1] for text in made])
         except ProgramDied as died:
             return Checked((), (), str(died))
@@ -374,7 +374,7 @@ class Theory:
         return Checked(tuple(_finding(file, one) for one in findings(file)), theorems, failure)
 
 
-def _own_theorems(command: str, report: object) -> Sequence[str]:
+def _theorems_made(command: str, report: object) -> Sequence[str]:
     if not isinstance(report, Made) or command.split(None, 1)[0] == "import":
         return ()
     return [text for text in report.entries if text.startswith("thm ")]

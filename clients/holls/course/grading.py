@@ -10,7 +10,7 @@ import subprocess
 import sys
 from concurrent.futures import ThreadPoolExecutor
 from pathlib import Path
-from typing import Dict, List, Optional, Sequence, Tuple
+from typing import Dict, List, Optional, Sequence
 
 import holls
 from holls import server
@@ -129,7 +129,7 @@ class Judges:
                     self._seconds, self._file_seconds)
         told = self._answer(judging.as_json(task))
         try:
-            verdicts = [Verdict.of(one) for one in told["verdicts"]]
+            verdicts = [Verdict.from_json(one) for one in told["verdicts"]]
             if [verdict.exercise for verdict in verdicts] == [one.name for one in given.exercises]:
                 return verdicts
         except (KeyError, TypeError, ValueError):

@@ -296,7 +296,7 @@ def main() -> int:
     task = _read(sys.stdin.read())
     _limit(task)
     try:
-        told: Dict[str, object] = {"verdicts": [verdict.told() for verdict in judged(task)]}
+        told: Dict[str, object] = {"verdicts": [verdict.as_json() for verdict in judged(task)]}
     except CannotJudge as error:
         told = {"failure": str(error)}
     except (MemoryError, RecursionError) as error:

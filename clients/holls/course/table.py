@@ -40,7 +40,7 @@ def as_json(course: Course, rows: Sequence[Row]) -> str:
         "course": course.title, "exercises": ["%s/%s" % column for column in columns(course)],
         "students": [{
             "student": row.student, "proved": row.proved, "of": len(row.verdicts),
-            "exercises": [dict(verdict.told(), file=file) for file, verdict in row.verdicts]} for row in rows]}
+            "exercises": [dict(verdict.as_json(), file=file) for file, verdict in row.verdicts]} for row in rows]}
     return json.dumps(told, indent=1, ensure_ascii=False) + "\n"
 
 

@@ -28,12 +28,12 @@ class Verdict:
     detail: str = ""
     line: Optional[int] = None
 
-    def told(self) -> Dict[str, object]:
+    def as_json(self) -> Dict[str, object]:
         """As JSON."""
         return dict(asdict(self), status=self.status.value)
 
     @staticmethod
-    def of(told: Dict[str, object]) -> "Verdict":
+    def from_json(told: Dict[str, object]) -> "Verdict":
         """From JSON."""
         line = told["line"]
         return Verdict(str(told["exercise"]), Status(told["status"]), str(told["detail"]), None if line is None else int(line))

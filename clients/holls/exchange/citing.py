@@ -31,14 +31,14 @@ class Citations:
     def conclusion(self, number: int) -> Term:
         return self.translator.term(self.record.theorems[number].conclusion)
 
-    def is_named(self, number: int) -> bool:
+    def stands_by_name(self, number: int) -> bool:
         return self.names.get(number, "") in self.scope.theorems
 
     def text(self, number: int, depth: int = 0) -> str:
         """The expression, which may stand as an argument. Uncitable, Untranslatable or Unwritable where there is none."""
         if depth > _DEEPEST:
             raise Uncitable
-        if self.is_named(number):
+        if self.stands_by_name(number):
             return self.names[number]
         theorem = self.record.theorems[number]
         parts = [part for kind, part in theorem.arguments if kind == "h"]
@@ -119,7 +119,7 @@ class Citations:
 
     def leaves(self, number: int, depth: int = 0) -> Iterator[str]:
         """The names of the theorems that one was made of."""
-        if self.is_named(number):
+        if self.stands_by_name(number):
             yield self.names[number]
         elif depth < _DEEPEST:
             for kind, part in self.record.theorems[number].arguments:

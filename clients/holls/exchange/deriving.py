@@ -7,9 +7,8 @@ import time
 from typing import Dict, List, Optional, Sequence, Set
 
 from holls.exchange import derivations, likes
-from holls.exchange.citing import Uncitable
 from holls.exchange.derivations import Branch, Deriver, Stuck
-from holls.exchange.neutral import Node, Untranslatable
+from holls.exchange.neutral import Node
 from holls.exchange.replay import Found, Replay, Step, _NOTHING
 from holls.prover import writing
 from holls.prover.typed import Term
@@ -98,17 +97,11 @@ class Deriving(Replay):
 
     def _by_step(self, node: Node, goals: Goals, depth: int) -> Optional[Found]:
         """The first like that leaves the recorded goals, or none, and what follows."""
-        mark = self.asker.count
-        for text in self._likes(node):
-            after = self._run(text)
-            if after is None:
-                continue
-            left = len(after.goals) - len(goals.goals) + 1
-            if left == 0:
+        for text, after in self._runs(node, goals):
+            if len(after.goals) < len(goals.goals):
                 return Found((Step(text, 0),), after)
-            if left == len(node.left) and all(self._is_like(after.goals[place], goal) for place, goal in enumerate(node.left)):
+            if self._are_recorded(node, after):
                 return self._followed(text, node.left, after, depth)
-            self.asker.back(mark)
         return None
 
     def _by_derivation(self, node: Node, goals: Goals, depth: int) -> Optional[Found]:

@@ -9,7 +9,7 @@ from holls.exchange.neutral import Record, Theorem, Translator, Untranslatable
 from holls.prover import typed
 from holls.prover.scope import Scope
 from holls.prover.typed import Term, Type
-from holls.prover.writing import Quoter, Unwritable, type_text
+from holls.prover.writing import Quoter, Unwritable
 
 MOST_CHARACTERS = 700
 _DEEPEST = 40

@@ -177,7 +177,7 @@ def _rewriting(node: Node, replay) -> Iterator[str]:
             yield "%s [%s] THEN BETA_TAC" % (function, "; ".join(own))
             yield "%s [%s] THEN BETA_TAC THEN %s [%s]" % (function, "; ".join(own), function, "; ".join(own + further))
     yield "%s [%s]" % (function, "; ".join(own))
-    wider = higher(own, replay.scope)
+    wider = taking_any_body(own, replay.scope)
     if wider != own:
         yield "%s [%s] THEN BETA_TAC" % (function, "; ".join(wider))
         whole = "%s [%s]" % (function, "; ".join(wider + [name for name in further if name not in wider]))
@@ -196,7 +196,7 @@ def _rewriting(node: Node, replay) -> Iterator[str]:
         yield "BETA_TAC THEN %s" % longer
 
 
-def higher(names: Sequence[str], scope: Scope) -> List[str]:
+def taking_any_body(names: Sequence[str], scope: Scope) -> List[str]:
     """Theorems about `!x. P x` in the form in which rewriting takes any body, `(!) P`, where they have one here."""
     return [name[:-len("_THM")] if name.endswith("_THM") and name[:-len("_THM")] in scope.theorems else name for name in names]
 
@@ -316,7 +316,7 @@ def closing(fine: Sequence[str], others: Sequence[str], scope: Scope) -> Iterato
     yield "REPEAT STRIP_TAC THEN ASM_REWRITE_TAC [%s]" % longer
     if fine:
         yield "REPEAT STRIP_TAC THEN REWRITE_TAC [%s]" % named
-    wider = higher(fine, scope)
+    wider = taking_any_body(fine, scope)
     if wider != list(fine):
         whole = "REWRITE_TAC [%s]" % "; ".join(wider + further)
         yield "%s THEN BETA_TAC THEN %s" % (whole, whole)

@@ -186,7 +186,7 @@ class Translator:
         while body[0] == "a" and body[1][0] == "c" and body[1][1] == "?" and body[2][0] == "l":
             binders.append((body[2][1], body[2][2], body[1]))
             body = body[2][3]
-        head, arguments = spine(body)
+        head, arguments = typed.spine(body)
         if head[:2] != ("c", _IS_IN_SET) or len(arguments) != 3:
             raise Untranslatable("a set of what is no comprehension")
         member, condition, value = arguments
@@ -209,7 +209,7 @@ class Translator:
         while body[0] == "a" and body[1][0] == "c" and body[1][1] == "!" and body[2][0] == "l":
             binders.append((body[2][1], body[2][2]))
             body = body[2][3]
-        head, arguments = spine(body)
+        head, arguments = typed.spine(body)
         if head[:2] != ("c", _IS) or len(arguments) != 2 or not binders:
             raise Untranslatable("a function of a pattern")
         left, right = arguments
@@ -224,7 +224,7 @@ class Translator:
 
 
 def _leaves(pattern: Term) -> List[Term]:
-    head, arguments = spine(pattern)
+    head, arguments = typed.spine(pattern)
     if head[:2] == ("c", "pair") and len(arguments) == 2:
         return _leaves(arguments[0]) + _leaves(arguments[1])
     return [pattern]
@@ -232,24 +232,15 @@ def _leaves(pattern: Term) -> List[Term]:
 
 def _paired(pattern: Term, function: Term, ty: Type) -> Term:
     """A function of a pattern's variables as one of its pairs, of a type: UNCURRY for each pair, which may be nested to the right."""
-    head, arguments = spine(pattern)
+    head, arguments = typed.spine(pattern)
     if head[:2] != ("c", "pair"):
         return function
-    if spine(arguments[0])[0][:2] == ("c", "pair"):
+    if typed.spine(arguments[0])[0][:2] == ("c", "pair"):
         raise Untranslatable("a function of a pattern")
     first, second = ty[1][1:]
     inner_type = typed.fun(second, ty[2])
     inner = ("l", function[1], function[2], _paired(arguments[1], function[3], inner_type))
     return ("a", ("c", "UNCURRY", typed.fun(typed.fun(first, inner_type), ty)), inner)
-
-
-def spine(term: Term) -> Tuple[Term, List[Term]]:
-    """What a term applies, and to what."""
-    arguments: List[Term] = []
-    while term[0] == "a":
-        arguments.append(term[2])
-        term = term[1]
-    return term, arguments[::-1]
 
 
 def _without(term: Term, depth: int) -> Term:

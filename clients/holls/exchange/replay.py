@@ -213,22 +213,16 @@ class Replay:
     def _by_likes(self, node: Node, goals: Goals, depth: int) -> Optional[Found]:
         """The first like that leaves the recorded goals, and what follows; else the first that leaves as many."""
         mark, loose = self.asker.count, []
-        for text in self._likes(node):
-            after = self._run(text)
-            if after is None:
-                continue
-            left = len(after.goals) - len(goals.goals) + 1
-            if left == 0:
+        for text, after in self._runs(node, goals):
+            if len(after.goals) < len(goals.goals):
                 return Found((Step(text, 0),), after)
-            if left == len(node.left):
-                if all(self._is_like(after.goals[place], goal) for place, goal in enumerate(node.left)):
-                    found = self._followed(text, node.left, after, depth)
-                    if found or not loose:
-                        return found
-                    self.asker.back(mark)
-                    break
-                loose.append(text)
-            self.asker.back(mark)
+            if self._are_recorded(node, after):
+                found = self._followed(text, node.left, after, depth)
+                if found or not loose:
+                    return found
+                self.asker.back(mark)
+                break
+            loose.append(text)
         for text in loose[:2]:
             after = self._run(text)
             found = None if after is None else self._followed(text, node.left, after, depth)
@@ -236,6 +230,21 @@ class Replay:
                 return found
             self.asker.back(mark)
         return self._bridged(node, goals, depth)
+
+    def _runs(self, node: Node, goals: Goals) -> Iterator[Tuple[str, Goals]]:
+        """The likes that leave nothing of the goal, or as many goals as were recorded, each with what it leaves; it is taken back before the next one."""
+        mark = self.asker.count
+        for text in self._likes(node):
+            after = self._run(text)
+            if after is None:
+                continue
+            if len(after.goals) - len(goals.goals) + 1 in (0, len(node.left)):
+                yield text, after
+            self.asker.back(mark)
+
+    def _are_recorded(self, node: Node, goals: Goals) -> bool:
+        """Whether the first goals are like those that the node left."""
+        return all(self._is_like(goals.goals[place], goal) for place, goal in enumerate(node.left))
 
     def _followed(self, text: str, left: Sequence[int], goals: Goals, depth: int) -> Optional[Found]:
         steps = [Step(text, len(left))]
@@ -408,7 +417,7 @@ class Replay:
                 return False
             assumed = [self._tree(text) for text in goal.assumptions]
             return all(self._recorded(one) in assumed for one in recorded.assumptions)
-        except (terms.Unreadable, *_NOTHING):
+        except _NOTHING:
             return False
 
     def _tree(self, text: str) -> object:

@@ -103,7 +103,7 @@ class Publisher:
 
     def _send(self, document: Document) -> None:
         document.due = None
-        state = self._state(document)
+        state = self._what_is_said(document)
         if state == document.state:
             return  # The news are of other documents.
         document.state = state
@@ -123,7 +123,7 @@ class Publisher:
             self.bridge.notify("textDocument/publishDiagnostics", params)
         self._send_unknown(document, failure)  # Behind what is known, so that who reads that nothing is unknown has read all.
 
-    def _state(self, document: Document) -> Tuple[Any, ...]:
+    def _what_is_said(self, document: Document) -> Tuple[Any, ...]:
         """What tells whether there is something new to say of a document."""
         server, theory = self.bridge.server_of(document), document.file.theory
         failure = server.failure if server else self.bridge.failure

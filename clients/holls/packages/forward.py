@@ -215,18 +215,29 @@ class _Reader:
 
     def terms(self) -> List[Term]:
         """A list of quotations."""
+        self.open_list("a list of terms is missing here: [`t`; `u`]")
+        found = [self.quoted()]
+        while self.list_goes_on():
+            found.append(self.quoted())
+        return found
+
+    def open_list(self, missing: str) -> None:
         start = self.at
         if self.token() != "[":
-            raise self.wrong(start, "a list of terms is missing here: [`t`; `u`]")
-        found: List[Term] = []
-        while True:
-            found.append(self.quoted())
-            start = self.at
-            end = self.token()
-            if end == "]":
-                return found
-            if end != ";":
-                raise self.wrong(start, "`;` or `]` is missing here")
+            raise self.wrong(start, missing)
+
+    def list_goes_on(self) -> bool:
+        """Takes what stands behind an element of a list: whether there is another one."""
+        start = self.at
+        end = self.token()
+        if end not in (";", "]"):
+            raise self.wrong(start, "`;` or `]` is missing here")
+        return end == ";"
+
+    def next_word(self) -> str:
+        """What is read next, if something is."""
+        found = _TOKEN.search(self.text, self.at)
+        return found.group() if found else ""
 
     def specialized(self, theorem: Theorem, given: Sequence[Term]) -> Theorem:
         """A theorem at terms, which fit its outer variables."""
@@ -240,23 +251,14 @@ class _Reader:
 
     def theorems(self, depth: int) -> List[Theorem]:
         """A list of theorems; names of lists stand for theirs."""
-        start = self.at
-        if self.token() != "[":
-            raise self.wrong(start, "a list of theorems is missing here: [th; th]")
-        found: List[Theorem] = []
-        while True:
-            start = self.at
-            first = _TOKEN.search(self.text, self.at)
-            if first is not None and first.group() == "]" and not found:
-                self.token()
-                return found
-            found += self.members(depth, first.group() if first else "")
-            start = self.at
-            end = self.token()
-            if end == "]":
-                return found
-            if end != ";":
-                raise self.wrong(start, "`;` or `]` is missing here")
+        self.open_list("a list of theorems is missing here: [th; th]")
+        if self.next_word() == "]":
+            self.token()
+            return []
+        found = [*self.members(depth, self.next_word())]
+        while self.list_goes_on():
+            found += self.members(depth, self.next_word())
+        return found
 
     def members(self, depth: int, word: str) -> List[Theorem]:
         """The theorem that stands next in a list, or those of a list that is named there."""

@@ -255,9 +255,9 @@ class _Splitting:
             to: Dict[str, Term] = {}
             if all(matched(norm(pattern), other, to) for pattern, other in zip(self.clause.written, one.patterns)):
                 instances.append(to)
-        return ["X_GEN_TAC %s" % _typed(one) for one in self.clause.variables] + self._split(list(self.clause.variables), instances)
+        return ["X_GEN_TAC %s" % _typed(one) for one in self.clause.variables] + self._cases_down_to(list(self.clause.variables), instances)
 
-    def _split(self, variables: List[Term], instances: List[Dict[str, Term]]) -> Steps:
+    def _cases_down_to(self, variables: List[Term], instances: List[Dict[str, Term]]) -> Steps:
         variable = next((one for one in variables if any(to.get(one[1], one)[0] != "v" for to in instances)), None)
         if variable is None:
             self.left -= 1
@@ -272,7 +272,7 @@ class _Splitting:
             new = [var(*one) for one in zip(names, constructor_types(data, constructor, variable[2]))]
             inner = [made for made in (_instance(to, variable, constructor.name, new) for to in instances) if made is not None]
             rest = [one for one in variables if one is not variable] + new
-            branches.append(["X_GEN_TAC %s" % _typed(one) for one in new] + self._split(rest, inner))
+            branches.append(["X_GEN_TAC %s" % _typed(one) for one in new] + self._cases_down_to(rest, inner))
         return ["SPEC_TAC (%s,%s) THEN MATCH_MP_TAC %s THEN BETA_TAC" % (_typed(variable), _typed(variable), data.split), *conjuncts(branches)]
 
 

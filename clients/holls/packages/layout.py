@@ -43,13 +43,13 @@ def added(parts: Sequence[str]) -> str:
     return _folded(parts, "(add %s %s)")
 
 
-def half_of(number: int) -> int:
+def number_on_the_left(number: int) -> int:
     """How many of two or more constructors are on the left: the greatest power of two that is fewer, since for each of these a theorem stands."""
     return 1 << (number - 1).bit_length() - 1
 
 
 def _balanced(parts: Sequence[str], form: str) -> str:
-    half = half_of(len(parts)) if len(parts) > 1 else 1
+    half = number_on_the_left(len(parts)) if len(parts) > 1 else 1
     return parts[0] if len(parts) == 1 else form % (_balanced(parts[:half], form), _balanced(parts[half:], form))
 
 
@@ -62,7 +62,7 @@ def injected(at: int, of: int, text: str) -> str:
     """A tuple as the label of one of so many constructors."""
     if of == 1:
         return text
-    half = half_of(of)
+    half = number_on_the_left(of)
     return "(INL %s)" % injected(at, half, text) if at < half else "(INR %s)" % injected(at - half, of - half, text)
 
 

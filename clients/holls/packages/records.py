@@ -10,7 +10,6 @@ from typing import List, Sequence
 from holls.packages import datatypes, functions, predicates
 from holls.packages.clauses import ClauseReader
 from holls.packages.datatypes import WrittenConstructor
-from holls.packages.forms import RECORD as FORM
 from holls.packages.layout import Layout
 from holls.packages.output import PUBLIC, Output
 from holls.packages.parsing import Place, Word

@@ -10,7 +10,7 @@ from typing import Callable, FrozenSet, List, Mapping, Optional, Sequence, Set, 
 
 from holls.packages.calls import OVER_LISTS, product_type, projected, tuple_term
 from holls.packages.clauses import Function
-from holls.packages.matching import Decisions, Leaf, Split, case_term, constructor_types
+from holls.packages.matching import Decisions, Leaf, Split, case_term
 from holls.packages.numerals import norm
 from holls.packages.output import Output, Steps
 from holls.packages.scope import Asking, Constructor, Data
@@ -50,7 +50,7 @@ class Primitive:
         self.values = product_type([self.value[one.name] for one in self.main])
         self.taken = self._taken()
         self.zipped = _Zipped(self) if self.lists else None
-        self.bodies = [self._body(at) for at in range(len(self.data.constructors))]
+        self.bodies = [self._at_constructor(at) for at in range(len(self.data.constructors))]
 
     @staticmethod
     def _is_on_lists(types: Mapping[str, Type], function: Function) -> bool:
@@ -74,7 +74,7 @@ class Primitive:
         """A function's first decision, which is on the argument at which it recurs."""
         return self.trees[name].root
 
-    def _body(self, at: int) -> Term:
+    def _at_constructor(self, at: int) -> Term:
         """What the functions are at a constructor, of its arguments and their values."""
         constructor = self.data.constructors[at]
         new = self.root(self.main[0].name).branches[at][1]

@@ -2,7 +2,7 @@
 
 from __future__ import annotations
 
-from typing import Dict, Iterable, List, NamedTuple, Optional, Sequence, Set, Tuple
+from typing import Dict, Iterable, List, NamedTuple, Optional, Sequence, Tuple
 
 from holls.packages.matching_terms import matched
 from holls.packages.terms import BOOL, Term, Type, const, eq, frees, is_operation, strip, subst, term_tyvars, tyinst

@@ -5,7 +5,7 @@ from __future__ import annotations
 from typing import Dict, List, Optional, Tuple
 
 from holls.packages import predicates
-from holls.packages.layout import Layout, added, cases, half_of
+from holls.packages.layout import Layout, added, cases, number_on_the_left
 from holls.packages.output import HIDDEN, PUBLIC, Output, Span, Steps, chunks, conjuncts, goals
 from holls.packages.scope import Data
 from holls.packages.terms import fresh, fun, tyshow
@@ -97,7 +97,7 @@ class TypeCommands:
         labels are as large as all constructors together."""
         if number == 1:
             return [self._inducted(first)]
-        half = half_of(number)
+        half = number_on_the_left(number)
         halves = "MATCH_MP_TAC pk_HALVES THEN BETA_TAC THEN PURE_REWRITE_TAC [sum_CASE] THEN CONJ_TAC"
         parted: Steps = ["MATCH_MP_TAC pk_CUT%d" % half] if half > 1 else []
         return parted + [(halves, [self._parted(first, half), self._parted(first + half, number - half)])]

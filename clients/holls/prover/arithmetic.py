@@ -126,7 +126,7 @@ class Arithmetic:
 
     def _ring(self, goals: Sequence[Goal], shown: Shown, before: List[str]) -> Step:
         atoms = polynomials.atoms_of(shown.conclusion)
-        return self._closed(before + self._named(atoms, frozenset(shown.free)) + ["REWRITE_TAC [RING]"], len(goals) - 1)
+        return self._closed(before + self._variables_for(atoms, frozenset(shown.free)) + ["REWRITE_TAC [RING]"], len(goals) - 1)
 
     def _refuting(self, goals: Sequence[Goal], shown: Shown) -> Step:
         """Takes what is assumed into the goal, denies it all, and refutes each case."""
@@ -233,14 +233,14 @@ class Arithmetic:
             calls.append("LE_%s_TAC" % kind if factor == 1 else "MATCH_MP_TAC (SPEC %s LE_%s_MULT)" % (self._number(factor), kind))
             every += polynomials.atoms_of(one.term)
         names = frozenset(text.partition(":")[0] for text in goals[0].free)
-        return calls + self._named(every, names) + ["LE_SUM_TAC"]
+        return calls + self._variables_for(every, names) + ["LE_SUM_TAC"]
 
     def _number(self, value: int) -> str:
         if value > numerals.MOST:
             raise TooLarge
         return self.quoter.quote(numerals.numeral(value))
 
-    def _named(self, atoms: Sequence[Term], taken: FrozenSet[str]) -> List[str]:
+    def _variables_for(self, atoms: Sequence[Term], taken: FrozenSet[str]) -> List[str]:
         """Calls that put variables for atoms, and give each variable its place."""
         distinct = list(dict.fromkeys(atoms))
         compound = sorted((atom for atom in distinct if atom[0] != "v"), key=lambda atom: -typed.size(atom))

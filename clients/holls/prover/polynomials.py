@@ -29,12 +29,17 @@ def total(one: Polynomial, other: Polynomial, factor: int = 1) -> Polynomial:
     """The sum of a polynomial and a multiple of another one."""
     found = dict(one)
     for monomial, coefficient in other.items():
-        value = found.get(monomial, 0) + factor * coefficient
-        if value:
-            found[monomial] = value
-        else:
-            found.pop(monomial, None)
+        _add(found, monomial, factor * coefficient)
     return found
+
+
+def _add(found: Polynomial, monomial: Monomial, coefficient: int) -> None:
+    """Adds to a polynomial in its place."""
+    value = found.get(monomial, 0) + coefficient
+    if value:
+        found[monomial] = value
+    else:
+        found.pop(monomial, None)
 
 
 def product(one: Polynomial, other: Polynomial) -> Polynomial:
@@ -44,12 +49,7 @@ def product(one: Polynomial, other: Polynomial) -> Polynomial:
     found: Polynomial = {}
     for left, first in one.items():
         for right, second in other.items():
-            monomial = tuple(sorted(left + right))
-            value = found.get(monomial, 0) + first * second
-            if value:
-                found[monomial] = value
-            else:
-                found.pop(monomial, None)
+            _add(found, tuple(sorted(left + right)), first * second)
     return found
 
 

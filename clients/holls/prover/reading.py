@@ -2,17 +2,13 @@
 
 from __future__ import annotations
 
-import re
 from dataclasses import dataclass, field
 from typing import Dict, FrozenSet, List, Optional, Tuple
 
 from holls.prover import typed
 from holls.prover.typed import BOOL, Hint, Term, Type, fun
+from holls.terms import BINDERS, LEVELS, OPERATORS, Unreadable, tokens
 
-_TOKEN = re.compile(r"\s*([A-Za-z_][A-Za-z0-9_']*|\?[0-9]+|<=>|==>|\\/|/\\|->|\?!|[=~\\!?@().:,])")
-_BINDERS = ("\\", "!", "?", "?!", "@")
-_LEVELS = {"<=>": 0, "==>": 1, "\\/": 2, "/\\": 3, "=": 4}
-_OPERATORS = frozenset(_LEVELS) | frozenset(("~", "!", "?", "?!", "@"))
 _DEEPEST = 150
 
 _A_BOOL = fun("A", BOOL)
@@ -20,10 +16,6 @@ PRELUDE: Dict[str, Type] = {
     "=": fun("A", fun("A", BOOL)), "@": fun(_A_BOOL, "A"), "T": BOOL, "F": BOOL, "~": fun(BOOL, BOOL), "!": fun(_A_BOOL, BOOL),
     "?": fun(_A_BOOL, BOOL), "?!": fun(_A_BOOL, BOOL), "ONE_ONE": fun(fun("A", "B"), BOOL), "ONTO": fun(fun("A", "B"), BOOL),
     "/\\": fun(BOOL, fun(BOOL, BOOL)), "\\/": fun(BOOL, fun(BOOL, BOOL)), "==>": fun(BOOL, fun(BOOL, BOOL))}
-
-
-class Unreadable(Exception):
-    """A text that is no term with a type."""
 
 
 @dataclass
@@ -93,7 +85,7 @@ class _Reader:
     """Reads one text by recursive descent, with its types."""
 
     def __init__(self, text: str, signature: Signature, free: Dict[str, Type]) -> None:
-        self.tokens = _tokens(text)
+        self.tokens = tokens(text)
         self.at = self.depth = 0
         self.signature, self.types = signature, Types()
         self.free: Dict[str, Type] = dict(free)
@@ -111,10 +103,10 @@ class _Reader:
 
     def term(self, loosest: int = 0) -> Tuple[Term, Type]:
         left, ty = self.prefix()
-        while _LEVELS.get(self.peek(), -1) >= loosest:
+        while LEVELS.get(self.peek(), -1) >= loosest:
             name = self.take()
             self.enter()
-            right, other = self.term(_LEVELS[name])
+            right, other = self.term(LEVELS[name])
             self.depth -= 1
             self.types.unify(ty, other)
             side = ty if name == "=" else BOOL
@@ -136,7 +128,7 @@ class _Reader:
             body, ty = self.prefix()
             self.types.unify(ty, BOOL)
             found = typed.mk_not(body), BOOL
-        elif token in _BINDERS and is_applied:
+        elif token in BINDERS and is_applied:
             found = self.binder(self.take())
         else:
             found = self.application()
@@ -205,7 +197,7 @@ class _Reader:
     def atom(self) -> Tuple[Term, Type]:
         if self.peek() == "(":
             self.take()
-            if self.peek() in _OPERATORS and self.tokens[self.at + 1:self.at + 2] == [")"]:
+            if self.peek() in OPERATORS and self.tokens[self.at + 1:self.at + 2] == [")"]:
                 name = self.take()
                 found = self.constant(name)
             else:
@@ -266,17 +258,6 @@ class _Reader:
         return term if kind == "b" else (kind, term[1], self.types.final(term[2], names, begun))
 
 
-def _tokens(text: str) -> List[str]:
-    found, at, text = [], 0, text.rstrip()
-    while at < len(text):
-        match = _TOKEN.match(text, at)
-        if not match:
-            raise Unreadable("`%s` begins no symbol" % text[at:].lstrip()[0])
-        found.append(match.group(1))
-        at = match.end()
-    return found
-
-
 def _ended(reader: _Reader) -> None:
     if reader.peek():
         raise Unreadable("`%s` is too much" % reader.peek())
@@ -322,7 +303,7 @@ def definition(text: str, signature: Signature) -> Term:
         reader.types.unify(result, reader.type())
     is_formula = reader.take() == "<=>"
     reader.bound += names
-    body, own = reader.term() if is_formula else reader.term(_LEVELS["="])
+    body, own = reader.term() if is_formula else reader.term(LEVELS["="])
     _ended(reader)
     del reader.bound[:]
     reader.types.unify(own, BOOL if is_formula else own)

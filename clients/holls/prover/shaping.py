@@ -53,19 +53,10 @@ def shapes(names: Sequence[str], knowledge: Knowledge) -> List[Shape]:
 
 def _is_flexible(term: Term) -> bool:
     for part in typed.subterms(term):
-        head, arguments = _spine(part)
+        head, arguments = typed.spine(part)
         if head[0] == "m" and arguments and all(one[0] == "b" for one in arguments):
             return True
     return False
-
-
-def _spine(term: Term) -> Tuple[Term, List[Term]]:
-    """What a term begins with, and its arguments."""
-    arguments: List[Term] = []
-    while term[0] == "a":
-        arguments.append(term[2])
-        term = term[1]
-    return term, arguments[::-1]
 
 
 class _Binding(Binding):
@@ -73,7 +64,7 @@ class _Binding(Binding):
 
     def match(self, pattern: Term, term: Term, bound: Tuple[Bound, ...] = ()) -> bool:
         """Whether a term under binders, the innermost first, is an instance."""
-        head, arguments = _spine(pattern)
+        head, arguments = typed.spine(pattern)
         if head[0] == "m" and arguments:
             return self._take_function(head, arguments, term, bound)
         kind = pattern[0]

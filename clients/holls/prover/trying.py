@@ -108,7 +108,7 @@ class Trial:
                 if found is not None and len(found.goals) == open_goals - 1:
                     return Step(text)
                 self.asker.back(mark)
-        step = self._introduced(step)
+        step = self._with_short_introductions(step)
         found = goals_after(self.asker, step.text)
         if found is None or len(found.goals) != open_goals - 1 + len(step.subs):
             return None
@@ -120,7 +120,7 @@ class Trial:
             subs.append(done)
         return merged(Step(step.text, tuple(subs)))
 
-    def _introduced(self, step: Step) -> Step:
+    def _with_short_introductions(self, step: Step) -> Step:
         """Steps that begin with introductions, with these as a shorter step that leaves the same goal."""
         chain, last = [], step
         while _INTRODUCTION.match(last.text) and len(last.subs) == 1:

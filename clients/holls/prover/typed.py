@@ -43,6 +43,15 @@ def apply(function: Term, *arguments: Term) -> Term:
     return function
 
 
+def spine(term: Term) -> Tuple[Term, List[Term]]:
+    """What a term applies, and to what."""
+    arguments: List[Term] = []
+    while term[0] == "a":
+        arguments.append(term[2])
+        term = term[1]
+    return term, arguments[::-1]
+
+
 def abstract(variable: Term, body: Term) -> Term:
     """The abstraction of a variable."""
     return ("l", Hint(variable[1]), variable[2], _bound(body, variable, 0))

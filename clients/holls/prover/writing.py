@@ -2,7 +2,7 @@
 
 from __future__ import annotations
 
-from typing import Dict, FrozenSet, List, Optional, Tuple
+from typing import Dict, FrozenSet, List
 
 from holls.prover import annotating, reading, typed
 from holls.prover.annotating import BINDER, BINDERS, CONSTANT

@@ -129,7 +129,7 @@ def _serve(given: argparse.Namespace) -> int:
     settings = service.Settings(
         page, (*before, library), tuple(dict.fromkeys([*own, *map(_origin, given.origin)])), given.sessions, given.each, given.idle * 60.0,
         given.processor, given.memory, given.rate, given.behind_proxy,
-        functools.partial(exercises, course) if course else None, Class(course.title, names) if course else None,
+        functools.partial(exercises_page, course) if course else None, Class(course.title, names) if course else None,
         given.teacher_key or secrets.token_urlsafe(16), given.ahead if course else 0, Keeping(given.keep, names) if given.keep else None,
         given.quiet, given.share / 100)
     _raise_files()
@@ -192,7 +192,7 @@ def _raise_files() -> None:
     resource.setrlimit(resource.RLIMIT_NOFILE, (hard, hard))
 
 
-def exercises(course: Course, student: str) -> str:
+def exercises_page(course: Course, student: str) -> str:
     """The page with a course's exercises for a student of a name: a link for each file, which opens it in the reader's page. It has no script, and no text
     is taken for markup."""
     items = "".join("<li><a href=\"%s\">%s</a>: %s</li>\n" % (

@@ -21,6 +21,7 @@ from urllib.parse import urlsplit
 
 from aiohttp import WSCloseCode, WSMsgType, web
 
+from holls.page import KINDS, POLICY
 from holls.say import say
 from holls.serving import nursery, usage
 from holls.serving.keeping import Keeping, NotKept
@@ -53,12 +54,6 @@ AHEAD_SECONDS = 1.0
 """So often at most a bridge is made ahead: it has the processor for as long, where it runs theories."""
 REASON_BYTES = 123
 """So long is the sentence at most with which a socket is closed."""
-
-_KINDS = {
-    ".html": "text/html; charset=utf-8", ".css": "text/css; charset=utf-8", ".js": "text/javascript; charset=utf-8",
-    ".svg": "image/svg+xml", ".hol": "text/plain; charset=utf-8",
-}
-_POLICY = "default-src 'self'; connect-src 'self' %s; base-uri 'none'; form-action 'none'; frame-ancestors 'none'"
 
 End = Tuple[int, str]
 """With what code and sentence a session ends."""
@@ -128,7 +123,7 @@ class Service:
         self.settings, self._nursery = settings, born
         self.sessions: List[Session] = []
         self._hosts = {urlsplit(origin).netloc for origin in settings.origins}
-        self._policy = _POLICY % " ".join(origin.replace("http", "ws", 1) for origin in settings.origins)
+        self._policy = POLICY % " ".join(origin.replace("http", "ws", 1) for origin in settings.origins)
         self._rates = ByAddress(settings.rate, settings.rate * BURST_SECONDS)
         self._ahead: Deque[Tuple[socket.socket, int]] = deque()
         self._number = 0
@@ -182,7 +177,7 @@ class Service:
 
     def _answer(self, folders: Sequence[Path], name: str) -> "web.StreamResponse":
         """A file of one of the folders, of the kinds that are served, and of no folder else: its name has no path in it."""
-        kind = _KINDS.get(Path(name).suffix)
+        kind = KINDS.get(Path(name).suffix)
         path = next((folder / name for folder in folders if kind and Path(name).name == name and _is_file(folder / name)), None)
         if path is None:
             raise web.HTTPNotFound()
@@ -198,7 +193,7 @@ class Service:
             raise web.HTTPNotFound()
         given = request.query.get("name")
         name = from_cookie(request.cookies.get(COOKIE)) if given is None else name_of(given)
-        headers = dict(self._headers(_KINDS[".html"]))
+        headers = dict(self._headers(KINDS[".html"]))
         headers["Content-Security-Policy"] = self._policy.replace("form-action 'none'", "form-action 'self'")
         answer = web.Response(text=self.settings.course(name), headers=headers)
         if given is not None:
@@ -213,7 +208,7 @@ class Service:
         if watched is None or not hmac.compare_digest(request.match_info["key"].encode("utf-8", "replace"), self.settings.key.encode()):
             raise web.HTTPNotFound()
         there = list(dict.fromkeys(session.student for session in self.sessions if session.student))
-        return web.Response(text=watched.page(there), headers=self._headers(_KINDS[".html"]))
+        return web.Response(text=watched.page(there), headers=self._headers(KINDS[".html"]))
 
     async def _health(self, _: "web.Request") -> "web.StreamResponse":
         return web.json_response({"sessions": len(self.sessions), "room": self.settings.sessions - len(self.sessions)})
@@ -259,7 +254,7 @@ class Service:
     async def _talk(self, session: Session) -> None:
         page = session.socket
         try:
-            pair, session.process = self._born()
+            pair, session.process = self._next_bridge()
         except OSError as error:
             await _close(session, (ENDED, "no program can be started: %s" % (error.strerror or error)))
             return
@@ -284,7 +279,7 @@ class Service:
             self._log(session, "ends after %d s: %s" % (time.monotonic() - session.begun, end[1] or "it was closed"))
             await _close(session, end)
 
-    def _born(self) -> Tuple[socket.socket, int]:
+    def _next_bridge(self) -> Tuple[socket.socket, int]:
         """A bridge: one that was made ahead, if one is there that hasn't ended."""
         while self._ahead:
             pair, process = self._ahead.popleft()

@@ -9,7 +9,7 @@ from holls.surface.frames import Variable
 from holls.surface.plain import PlainWriter
 from holls.surface.reader import Reader
 from holls.surface.shown import Printer
-from holls.surface.tokens import SYMBOL, WORD
+from holls.surface.tokens import WORD
 from holls.surface.tree import PRECEDENCES, Annotation, Name, Term, Type, spine
 
 _EQUALS = ("=", "<=>")

@@ -5,7 +5,7 @@ from __future__ import annotations
 from itertools import accumulate
 from typing import Any, List, Optional, Tuple
 
-from holls.surface.tree import PRECEDENCES, Annotation, Application, Binder, Connective, Name, Negation, Symbol, Term, Type
+from holls.surface.tree import PRECEDENCES, Application, Binder, Connective, Name, Negation, Symbol, Term, Type
 
 _NEGATED, _FUNCTION, _ATOM = 13, 14, 15
 """How tightly what stands behind `~`, a function, and an argument binds."""
