@@ -10,7 +10,7 @@ import threading
 import time
 from dataclasses import dataclass
 from pathlib import Path
-from typing import FrozenSet, List, Optional, Union
+from typing import Dict, FrozenSet, List, Optional, Union
 
 from holls import protocol
 from holls.carried import CLONE
@@ -27,6 +27,9 @@ MEMORY_VARIABLE = "HOL_SERVE_MEMORY"
 """The environment variable that says how many MB of memory a program may have; 0 sets no limit."""
 SHELL = "/bin/sh"
 """What starts a program under a limit that its own words name."""
+ALLOCATOR = ("GLIBC_TUNABLES", "glibc.malloc.tcache_count=127:glibc.malloc.trim_threshold=67108864:glibc.malloc.mmap_threshold=33554432:glibc.malloc.top_pad=1048576")
+"""What a program's environment tells the C library, where it says nothing of that: to keep at hand what the program gives back, which takes and gives blocks of
+memory by the thousand for each command. It saves a twentieth of its instructions."""
 MEMORY_MB = 3000
 """So many it may have where that isn't said."""
 
@@ -147,12 +150,18 @@ class Server:
 
 def _start(program: List[str]) -> "subprocess.Popen[bytes]":
     try:
-        process = subprocess.Popen(program, stdin=subprocess.PIPE, stdout=subprocess.PIPE, stderr=subprocess.PIPE)
+        process = subprocess.Popen(program, stdin=subprocess.PIPE, stdout=subprocess.PIPE, stderr=subprocess.PIPE, env=environment())
     except OSError as error:
         raise NoServer("the program %s can't be started: %s" % (program[0], error.strerror or error)) from None
     if program[0] != SHELL:  # Its words set a limit of their own.
         _limit(process.pid, memory())
     return process
+
+
+def environment() -> Dict[str, str]:
+    """The environment that a program is started in."""
+    name, words = ALLOCATOR
+    return {name: words, **os.environ}
 
 
 def memory() -> Optional[int]:

@@ -8,7 +8,7 @@ import subprocess
 import time
 from typing import Iterator, List, Sequence
 
-from holls.server import REPLY_BYTES, NoServer
+from holls.server import REPLY_BYTES, NoServer, environment
 
 PATIENCE = 4
 """Lines that were served before may take so many times their limit."""
@@ -33,7 +33,7 @@ class Channel:
         try:
             self._process = subprocess.Popen(
                 list(words), bufsize=0, stdin=subprocess.PIPE, stdout=subprocess.PIPE, stderr=subprocess.PIPE,
-                start_new_session=True)  # So that Ctrl-C is the caller's alone.
+                env=environment(), start_new_session=True)  # So that Ctrl-C is the caller's alone.
         except OSError as error:
             raise NoServer("the program %s can't be started: %s" % (words[0], error.strerror or error)) from None
         self._in, self._out = self._process.stdin.fileno(), self._process.stdout.fileno()
