@@ -80,6 +80,8 @@ def main() -> int:
     files, counts = list(texts()), []
     for kind in given.kinds or LIKES:
         found = naming(kind, files)
+        if not found:
+            sys.exit("cases: no file names each of %s: are they called otherwise now?" % ", ".join(LIKES[kind]))
         by_place: Dict[str, List[str]] = {}
         for path in found:
             by_place.setdefault(place(path), []).append(path)

@@ -25,6 +25,8 @@ _IN_WORDS = {"forall": "!", "exists": "?", "exists_unique": "?!", "lambda": "\\"
 """Words of other provers for signs of the notation."""
 _LINE_WORD = re.compile(r"\n[ \t\r]*([A-Za-z_][A-Za-z0-9_']*)")
 _COMMENT = re.compile(r"//|/\*|--|#|%")
+_WITHOUT_NAME = re.compile(r"(%s)\s*`" % "|".join(word for word, form in notation.COMMANDS.items() if form.startswith(word + " NAME `")))
+"""The commands that have a name before a quotation, without it."""
 _GOES_ON = {"r": re.compile(r"\s*[0-9]"), "e": re.compile(r"\s*[A-Za-z(]"), "b": re.compile(r"\s*\Z|\s*\n")}
 """How a command goes on whose word may well be the name of a theorem."""
 
@@ -100,7 +102,7 @@ def missing_end(text: str) -> Optional[Told]:
 
 def _without_name(text: str, before: List[str]) -> Optional[Told]:
     """A command that makes something, and has no name for it."""
-    found = re.match(r"(g|new_axiom|new_definition|new_constant)\s*`", text)
+    found = _WITHOUT_NAME.match(text)
     if not found or len(before) > 1:
         return None
     word = found.group(1)
