@@ -17,6 +17,7 @@ const SETTLED = 200; // So many milliseconds after an edit what could be done is
 const KEPT = 400; // So long after an edit all is kept.
 const DWELL = 500; // So long a pointer rests before it is told what it is on.
 const COMPLETIONS = 40;
+const WARNING = 2; // What LSP calls a message that isn't an error.
 const SECONDS = Number(new URLSearchParams(location.search).get('seconds')) || undefined;
 const $ = (id) => document.getElementById(id);
 
@@ -34,14 +35,15 @@ class Page {
     const kept = restore();
     this.theories = kept.tabs.map(({ name, text }) => new Theory(name, text));
     this.active = null;
-    Object.assign(this, { asked: null, goalsOf: null, manual: null, failure: null, isResting: false, isDrawn: true, saidTimer: null, searched: 0, fixing: 0 });
+    Object.assign(this, { failure: null, warning: null, isResting: false }); // What the banner tells.
+    Object.assign(this, { asked: null, goalsOf: null, manual: null, isDrawn: true, saidTimer: null, searched: 0, fixing: 0 });
     this.bridge = new Bridge({
       options: { seconds: SECONDS, slow: 1, refused: true, mostCompletions: COMPLETIONS },
       heard: {
         'textDocument/publishDiagnostics': (params) => this.diagnostics(params),
         '$/hol/fileProgress': (params) => this.progress(params),
         '$/progress': ({ value }) => { $('progress').textContent = value.message ?? ''; },
-        'window/showMessage': ({ message }) => this.fail(message),
+        'window/showMessage': ({ type, message }) => (type === WARNING ? this.warn(message) : this.fail(message)),
         'workspace/codeLens/refresh': () => this.known(),
       },
       begun: (exercises) => this.begun(exercises),
@@ -111,15 +113,25 @@ class Page {
 
   banner() {
     const button = (words, onclick) => element('button', { onclick }, words);
-    const parts = this.isResting
-      ? ['The page is open in another window, in which you went on. What is written here is not kept. ', button('Go on here', () => location.reload())]
-      : [`The prover doesn't answer: ${this.failure}. `, button('Try again', () => this.again())];
+    let parts = [];
+    if (this.isResting) {
+      parts = ['The page is open in another window, in which you went on. What is written here is not kept. ', button('Go on here', () => location.reload())];
+    } else if (this.failure) {
+      parts = [`The prover doesn't answer: ${this.failure}. `, button('Try again', () => this.again())];
+    } else if (this.warning) {
+      parts = [`${this.warning[0].toUpperCase()}${this.warning.slice(1)}. `, button('Close', () => this.warn(null))];
+    }
     $('banner').replaceChildren(...parts);
-    $('banner').hidden = !this.isResting && !this.failure;
+    $('banner').hidden = !parts.length;
   }
 
   fail(words) {
     this.failure = words;
+    this.banner();
+  }
+
+  warn(words) {
+    this.warning = words;
     this.banner();
   }
 
@@ -140,6 +152,7 @@ class Page {
   // A bridge is there. It gets the theory that is shown, and those that are exercises, which the server follows.
   async begun(exercises) {
     this.fail(null);
+    this.warn(null);
     for (const theory of this.theories) theory.forget();
     if (this.active) this.show();
     for (const theory of this.theories) if (exercises.includes(theory.name)) this.open(theory);

@@ -23,7 +23,8 @@ class Lines:
         """Where they begin."""
         if "\r" in self.text:
             return [0] + [match.end() for match in _LINE_END.finditer(self.text)]
-        return [0, *accumulate(map(len, _LINE.findall(self.text)))]
+        ended = self.text[:self.text.rfind("\n") + 1]  # Behind it the expression would look for an end from each character.
+        return [0, *accumulate(map(len, _LINE.findall(ended)))]
 
     def line(self, place: int) -> int:
         """The line of a place in the text."""

@@ -14,6 +14,7 @@ import ssl
 import subprocess
 import sys
 import tempfile
+import threading
 import time
 import unittest
 import urllib.parse
@@ -39,6 +40,11 @@ def python():
         if shutil.which(name) and subprocess.run([name, "-c", "import aiohttp"], capture_output=True).returncode == 0:
             return name
     return None
+
+
+def changed(*lines):
+    """The words of Python that begin `holls` with something in it changed by these lines."""
+    return "-c", "; ".join(["import sys", "sys.path.insert(0, %r)" % str(ROOT / "clients"), *lines, "from holls.__main__ import run", "sys.exit(run())"])
 
 
 class Parts(unittest.TestCase):
@@ -332,6 +338,39 @@ class Serve(Served):
         for word in ("SAME", "ann", "ben", "diary"):
             self.assertNotIn(word, said)
 
+    def test_a_student_is_told_what_cannot_be_kept_and_when_it_is_kept_again(self):
+        work = self.room / "work"
+        self.serve("--keep", str(work), "--ahead", "0")
+        editor = Editor(self.socket(Cookie=self.named("ann")))
+        editor.open("equations", "import week;;\n(* 1 *)\n")
+        self.until(lambda: (work / "ann" / "equations.hol").exists())
+        os.rename(work, self.room / "away")
+        work.write_text("no folder any more")
+        self.write(editor, 1, "import week;;\n(* 2 *)\n")
+        self.assertEqual(self.warned(editor), "the server can't keep what you write in equations any more: save it, and hand that in")
+        work.unlink()
+        os.rename(self.room / "away", work)
+        self.write(editor, 2, "import week;;\n(* 3 *)\n")
+        self.assertEqual(self.warned(editor), "what you write in equations is kept again")
+        self.assertEqual((work / "ann" / "equations.hol").read_text(), "import week;;\n(* 3 *)\n")
+        self.write(editor, 3, "(* %s *)" % ("x" * 500_000))
+        self.assertIn("can't keep what you write in equations", self.warned(editor))
+        said = (self.room / "said").read_text()
+        self.assertIn("page 1 of 127.0.0.1 isn't kept: %s can't be written to" % work, said)
+        self.assertEqual(said.count("isn't kept"), 2)
+
+    @staticmethod
+    def write(editor, version, text):
+        editor.tell("textDocument/didChange", textDocument={"uri": "hol:/equations.hol", "version": version}, contentChanges=[{"text": text}])
+
+    @staticmethod
+    def warned(editor):
+        """The next warning that a page is told."""
+        message = {}
+        while message.get("method") != "window/showMessage":
+            message = editor.hear()
+        return message["params"]["message"] if message["params"]["type"] == 2 else message
+
     def test_a_program_that_waits_has_run_what_the_exercises_import(self):
         self.serve("--ahead", "1", "--sessions", "1")
         self.until(lambda: any("TWICE" in text for text in self.asked("insert")) and not self.is_busy())
@@ -392,9 +431,18 @@ class Serve(Served):
 
     def test_an_address_that_asks_too_often_waits_and_others_don_t(self):
         self.serve("--rate", "1", "--behind-proxy")
-        statuses = [self.get("/health", X_Forwarded_For="1.1.1.1").status for _ in range(60)]
-        self.assertIn(429, statuses)
+        statuses = []
+        asking = [threading.Thread(target=lambda: statuses.append(self.get("/health", X_Forwarded_For="1.1.1.1").status)) for _ in range(60)]
+        for one in asking:
+            one.start()
+        begun = time.monotonic()
         self.assertEqual(self.get("/health", X_Forwarded_For="2.2.2.2").status, 200)
+        is_soon = time.monotonic() - begun < 5
+        for one in asking:
+            one.join()
+        self.assertEqual((set(statuses), len(statuses)), ({200, 429}, 60))
+        self.assertGreaterEqual(statuses.count(200), 30)
+        self.assertTrue(is_soon)
 
     @unittest.skipUnless(shutil.which("pgrep") and os.path.isdir("/proc/self"), "pgrep or /proc isn't here")
     def test_what_uses_too_much_is_ended_with_its_program_and_told_why(self):
@@ -412,9 +460,9 @@ class Serve(Served):
     @unittest.skipUnless(os.path.isdir("/proc/self"), "what processes use isn't told here")
     def test_memory_idle_time_and_long_messages_end_their_session_alone_and_are_told(self):
         """The time in which nothing is done is three seconds here, in place of a minute at least."""
-        code = ("import sys; sys.path.insert(0, %r); from dataclasses import replace; from holls.serving import service; made = service.Settings; "
-                "service.Settings = lambda *given: replace(made(*given), idle_seconds=3.0); from holls.__main__ import run; sys.exit(run())" % str(ROOT / "clients"))
-        self.serve("--memory", "60", "--ahead", "0", begun=("-c", code))
+        code = ("from dataclasses import replace", "from holls.serving import service", "made = service.Settings",
+                "service.Settings = lambda *given: replace(made(*given), idle_seconds=3.0)")
+        self.serve("--memory", "60", "--ahead", "0", begun=changed(*code))
         self.assertIn("nothing was done here for long: the next key begins anew", self.closed(self.socket()))
         large = self.socket()
         large.send(b"[" * (5 << 20))

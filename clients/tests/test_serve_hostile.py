@@ -13,7 +13,7 @@ import zlib
 from holls.websocket import Closed, WebSocket
 from tests.helpers import BUILT, SECONDS
 from tests.test_page_server import Editor
-from tests.test_serve import Served, python
+from tests.test_serve import Served, changed, python
 
 MEMORY = 150_000
 """So many kilobytes the server may have whatever is done to it."""
@@ -44,16 +44,95 @@ class Hostile(Served):
         self.works()
         self.small()
 
-    def test_a_message_of_100_000_fragments_costs_its_session_alone(self):
-        self.serve()
-        other, page = Editor(self.socket()), self.socket()
-        try:
-            page._writer.write(b"\x01\x81\0\0\0\0x" + b"\x00\x81\0\0\0\0x" * 100_000)
-            page._writer.flush()
-        except OSError:
-            pass  # It was closed before all was written.
+    def test_tiny_frames_cost_their_session_alone(self):
+        """Fragments of one message, empty messages, pings and pongs, 100,000 of each: they wait outside, and the server hardly works for them."""
+        self.serve("--ahead", "0")
+        other = Editor(self.socket())
         self.assertIsInstance(other.ask("hol/manual"), dict)
+        for first, frame in ((b"\x01\x81\0\0\0\0x", b"\x00\x81\0\0\0\0x"), (b"", b"\x81\x80\0\0\0\0"), (b"", b"\x89\x80\0\0\0\0"), (b"", b"\x8a\x80\0\0\0\0")):
+            page, before = self.socket(), self.seconds()
+            page._writer.raw._sock.settimeout(2)
+            try:
+                page._writer.write(first + frame * 100_000)
+                page._writer.flush()
+            except OSError:
+                pass  # Nothing more is taken.
+            self.assertIsInstance(other.ask("hol/manual"), dict)
+            self.assertLess(self.seconds() - before, 1.0, frame)
+            self.cut(page)
         self.small()
+
+    def seconds(self):
+        """What the server's own process has had of the processor."""
+        with open("/proc/%d/schedstat" % self.process.pid) as stream:
+            return int(stream.read().split()[0]) / 1e9
+
+    @staticmethod
+    def cut(page):
+        """Ends a connection without a word."""
+        try:
+            page._writer.raw._sock.shutdown(socket.SHUT_RDWR)
+        except OSError:
+            pass  # It was ended already.
+
+    def test_what_is_asked_before_the_answers_ends_its_connection_alone(self):
+        """Requests one behind the other, a head without an end, and what comes behind a socket's request."""
+        self.serve("--ahead", "0")
+        request, before = b"GET / HTTP/1.1\r\nHost: %s\r\n" % self.host.encode(), self.seconds()
+        for text in ((request + b"\r\n") * 100_000, request + b"X: y\r\n" * 1_000_000, request + b"Upgrade: websocket\r\nConnection: Upgrade\r\n\r\n" + b"x" * 10_000_000):
+            connection = self.connect()
+            with self.assertRaises(OSError):
+                connection.sendall(text)
+                while connection.recv(1 << 16):
+                    pass
+                raise OSError("it was closed")
+        self.works()
+        self.assertLess(self.seconds() - before, 3.0)
+        self.small()
+
+    def test_who_reads_no_answer_is_cut_in_time(self):
+        """The time is a second here, in place of a minute."""
+        self.serve("--ahead", "0", begun=changed("from holls.serving import wires", "wires.ANSWER_SECONDS = 1"))
+        self.get("/health").read()
+        files, waiting = self.files(), []
+        for _ in range(60):
+            waiting.append(socket.socket())
+            self.addCleanup(self.let_go, waiting[-1])
+            waiting[-1].setsockopt(socket.SOL_SOCKET, socket.SO_RCVBUF, 2048)
+            waiting[-1].connect(("127.0.0.1", int(self.host.split(":")[1])))
+            waiting[-1].sendall(b"GET /theories/sets.hol HTTP/1.1\r\nHost: %s\r\n\r\n" % self.host.encode() * 20)
+        self.works()
+        self.until(lambda: self.files() <= files + 2)
+
+    def test_an_address_has_so_many_connections_and_begins_so_many_pages(self):
+        self.serve("--each", "2", "--ahead", "0")
+        self.get("/health").read()
+        files = self.files()
+        waiting = [self.connect() for _ in range(30)]
+        self.until(lambda: sum(map(self.is_cut, waiting)) == 16)
+        for connection in waiting:
+            connection.close()
+        self.until(lambda: self.files() <= files + 1)
+        told = []
+        for _ in range(6):
+            page = self.socket()
+            page.send(b"{}")
+            page.close()
+            told.append(self.closed(page))
+            self.until(lambda: json.load(self.get("/health"))["sessions"] == 0)
+        self.assertIn("too many pages were begun from your address: this one tries again by itself", told[-1])
+        self.assertEqual(sum("too many pages" in one for one in told), 2, told)
+
+    @staticmethod
+    def is_cut(connection):
+        """Whether the server has ended a connection."""
+        connection.setblocking(False)
+        try:
+            return connection.recv(1) == b""
+        except BlockingIOError:
+            return False
+        except OSError:
+            return True
 
     def test_a_little_that_is_unpacked_to_much_ends_its_session_alone(self):
         self.serve()
@@ -205,7 +284,7 @@ class AClass(Served):
                     version += 1
                     page.tell("textDocument/didChange", textDocument={"uri": "hol:/F.hol", "version": version},
                               contentChanges=[{"text": "g F%d `x = x`;;\n" % version * 2000}])
-                self.cut(page.socket)
+                Hostile.cut(page.socket)
             except (Closed, OSError, AttributeError):
                 time.sleep(0.1)  # It was ended, or there is no room.
 
@@ -219,15 +298,7 @@ class AClass(Served):
                 page.send(b'{"jsonrpc":"2.0","id":1,"method":"hol/manual","params":{}}')
             except OSError:
                 time.sleep(0.1)
-        self.cut(page)
-
-    @staticmethod
-    def cut(page):
-        """Ends a connection without a word."""
-        try:
-            page._writer.raw._sock.shutdown(socket.SHUT_RDWR)
-        except OSError:
-            pass  # It was ended already.
+        Hostile.cut(page)
 
     def too_long(self, over):
         """Sends messages of more than is taken, again and again."""

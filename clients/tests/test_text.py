@@ -26,6 +26,12 @@ class Cutting(unittest.TestCase):
         self.assertEqual(texts("g A `∀x. ∃!y. ¬¬p ∧ q ∨ (λz. z) ⇒ r ⇔ s`;;"), ["g A `!x. ?!y. ~  ~p /\\ q \\/ (\\z. z) ==> r <=> s`"])
         self.assertEqual(texts("g A `∃∀x. p`;;"), ["g A `?  !x. p`"])
 
+    def test_a_last_line_without_an_end_costs_what_it_is_long(self):
+        begun = time.process_time()
+        self.assertEqual(places.Lines("a\n" + "x" * 200_000).starts, [0, 2])
+        self.assertEqual(places.Lines("x" * 200_000).starts, [0])
+        self.assertLess(time.process_time() - begun, 1)
+
     def test_tells_of_an_unclosed_comment_and_keeps_what_is_above(self):
         found = cut("qed;; (* a (* b *) ;; qed;;")
         self.assertEqual([command.text for command in found.commands], ["qed"])

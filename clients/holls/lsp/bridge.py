@@ -325,7 +325,7 @@ class Bridge:
     def _open(self, params: Params) -> None:
         given = params["textDocument"]
         if self.limits.files is not None and len(self.workspace.documents) >= self.limits.files and given["uri"] not in self.workspace.documents:
-            self.notify("window/showMessage", {"type": 1, "message": "%d files are open, and there may be no more: close one" % self.limits.files})
+            self.notify("window/showMessage", {"type": 2, "message": "%d files are open, and there may be no more: close one" % self.limits.files})
             return
         document = self.workspace.open(given["uri"], given.get("version"), given["text"])
         self._save(params)

@@ -27,6 +27,7 @@ from holls.say import complain
 from holls.serving.keeping import Keeping
 from holls.serving.progress import Exercises, Watched
 from holls.serving.watching import Class
+from holls.serving.wires import BACKLOG
 
 try:
     from aiohttp import web
@@ -34,7 +35,6 @@ except ImportError:
     web = None
 
 ADDRESS, PORT = "127.0.0.1", 8765
-BACKLOG = 512
 LINK_BYTES = 400_000
 """The page takes no more from a link."""
 

@@ -8,6 +8,7 @@ from __future__ import annotations
 
 import asyncio
 import hmac
+import json
 import secrets
 import signal
 import socket
@@ -16,7 +17,7 @@ import time
 from collections import deque
 from dataclasses import dataclass, field
 from pathlib import Path
-from typing import Any, Callable, Deque, Dict, List, Optional, Sequence, Tuple
+from typing import Any, Callable, Deque, Dict, List, Optional, Sequence, Set, Tuple
 from urllib.parse import urlsplit
 
 from aiohttp import WSCloseCode, WSMsgType, web
@@ -28,6 +29,7 @@ from holls.serving.keeping import Keeping, NotKept
 from holls.serving.progress import MARK, params
 from holls.serving.rates import Bucket, ByAddress
 from holls.serving.watching import COOKIE, KEY_COOKIE, Class, from_cookie, key_of, name_of, to_cookie
+from holls.serving.wires import BACKLOG, OF_A_PAGE, Wire, Wires
 
 MESSAGE_BYTES = 4 << 20
 """A longer message, either way, ends the session."""
@@ -48,10 +50,14 @@ BURST_SECONDS = 30
 """An address that was quiet may do at once what else it may do in so many seconds."""
 COOKIE_SECONDS = 200 * 24 * 3600
 """So long a browser keeps a student's name."""
-ASK_SECONDS, NEXT_SECONDS = 20, 15
-"""So long a connection may take until it has asked for something, and then for something else."""
+NEXT_SECONDS, LATER_SECONDS = 15, 5
+"""So long a connection may take until it asks for something else; and so long who asks too often waits."""
+PAGES_SECONDS = 60
+"""In so many seconds in the long run an address may begin as many pages as it may have, and twice as many at once."""
 AHEAD_SECONDS = 1.0
 """So often at most a bridge is made ahead: it has the processor for as long, where it runs theories."""
+NOT_KEPT = "the server can't keep what you write in %s any more: save it, and hand that in"
+KEPT_AGAIN = "what you write in %s is kept again"
 REASON_BYTES = 123
 """So long is the sentence at most with which a socket is closed."""
 
@@ -88,8 +94,8 @@ class Settings:
 @dataclass(eq=False)
 class Session:
     """A page that is open: its socket, its address, its number, the name that its student gave with the key of the browser, the number of its bridge, and
-    what says that it is to end. `is_kept` until something of it couldn't be kept; `used` seconds of the processor it had when it was looked at last, `share` is
-    what it may have before it `is_behind` the others."""
+    what says that it is to end. Of the files `lost` the last text couldn't be kept; `used` seconds of the processor it had when it was looked at last, `share`
+    is what it may have before it `is_behind` the others."""
 
     socket: "web.WebSocketResponse"
     transport: Optional[asyncio.BaseTransport]
@@ -99,7 +105,7 @@ class Session:
     student: str = ""
     key: str = ""
     process: int = 0
-    is_kept: bool = True
+    lost: Set[str] = field(default_factory=set)
     used: float = 0.0
     is_behind: bool = False
     begun: float = field(default_factory=time.monotonic)
@@ -125,21 +131,24 @@ class Service:
         self._hosts = {urlsplit(origin).netloc for origin in settings.origins}
         self._policy = POLICY % " ".join(origin.replace("http", "ws", 1) for origin in settings.origins)
         self._rates = ByAddress(settings.rate, settings.rate * BURST_SECONDS)
+        self._begins = ByAddress(settings.each / PAGES_SECONDS, 2 * settings.each)
         self._ahead: Deque[Tuple[socket.socket, int]] = deque()
         self._number = 0
-        self._connections: Callable[[], Sequence[Any]] = tuple
-        self._seen: Dict[asyncio.BaseTransport, float] = {}
+        self._wires: Optional[Wires] = None
 
     async def run(self, listening: socket.socket) -> None:
         """Serves until the process is told to end."""
         runner = web.AppRunner(self.application(), access_log=None, keepalive_timeout=NEXT_SECONDS)
         await runner.setup()
-        self._connections = lambda: runner.server.connections if runner.server else ()
-        over = asyncio.Event()
+        self._wires = Wires(runner.server, None if self.settings.is_behind_proxy else OF_A_PAGE * self.settings.each)
+        over, loop = asyncio.Event(), asyncio.get_running_loop()
         for number in (signal.SIGINT, signal.SIGTERM):
-            asyncio.get_running_loop().add_signal_handler(number, over.set)
-        await web.SockSite(runner, listening).start()
+            loop.add_signal_handler(number, over.set)
+        server = await loop.create_server(self._wires, sock=listening, backlog=BACKLOG)
         await over.wait()
+        server.close()
+        await runner.shutdown()
+        await runner.server.shutdown()
         await runner.cleanup()
 
     def application(self) -> "web.Application":
@@ -156,12 +165,15 @@ class Service:
 
     async def _guard(self, request: "web.Request", handler: object) -> "web.StreamResponse":
         """Lets through who asks for this server, and not too often."""
-        if request.transport is not None:
-            self._seen[request.transport] = float("inf")
+        wire, address = _wire(request), self._address(request)
+        if wire:
+            wire.heard()
+        if not self._rates.takes(address):
+            await asyncio.sleep(LATER_SECONDS)
+            if not self._rates.takes(address):
+                raise web.HTTPTooManyRequests(text="too many requests come from your address: wait a little\n", headers={"Retry-After": "5"})
         if request.headers.get("Host", "") not in self._hosts:
             raise web.HTTPForbidden(text="this server isn't known by that name: its --origin says which it has\n")
-        if not self._rates.takes(self._address(request)):
-            raise web.HTTPTooManyRequests(text="too many requests come from your address: wait a little\n", headers={"Retry-After": "5"})
         return await handler(request)
 
     def _address(self, request: "web.Request") -> str:
@@ -231,6 +243,9 @@ class Service:
             await _close(session, (FULL, refused))
             return page
         self.sessions.append(session)
+        wire = _wire(request)
+        if wire:
+            wire.stays()
         self._log(session, "begins; %d are open" % len(self.sessions))
         try:
             await self._talk(session)
@@ -249,6 +264,8 @@ class Service:
             return "%d pages are open, and there is room for no more: this one tries again by itself" % len(self.sessions)
         if sum(session.address == address for session in self.sessions) >= self.settings.each:
             return "%d pages are open from your address, and there may be no more: close one" % self.settings.each
+        if not self._begins.takes(address):
+            return "too many pages were begun from your address: this one tries again by itself"
         return None
 
     async def _talk(self, session: Session) -> None:
@@ -288,20 +305,27 @@ class Service:
             pair.close()
         return self._nursery.bear()
 
-    def _take(self, session: Session, told: List[Dict[str, Any]]) -> None:
-        """Takes how far a page is, and its texts where these are kept."""
+    def _take(self, session: Session, told: List[Dict[str, Any]]) -> List[str]:
+        """Takes how far a page is, and its texts where these are kept. Answers what the page is to be told."""
         if self.settings.watched is not None:
             self.settings.watched.hear(session.student or session.address, told)
-        for one in told if self.settings.keeping and session.student and session.key and session.is_kept else ():
-            if one.get("text") is not None:
-                self._keep(session, one["file"], one["text"])
+        if not (self.settings.keeping and session.student and session.key):
+            return []
+        return [words for one in told for words in self._keep(session, one["file"], one.get("text"))]
 
-    def _keep(self, session: Session, file: str, text: str) -> None:
+    def _keep(self, session: Session, file: str, text: Optional[str]) -> List[str]:
+        """Keeps a text of an exercise's file; one that is too long for it isn't told. Answers words where it is otherwise than before."""
+        why = None if text is not None else "%s is too long" % file
         try:
-            self.settings.keeping.put(session.student, session.key, file, text)
+            if text is not None:
+                self.settings.keeping.put(session.student, session.key, file, text)
         except NotKept as error:
-            session.is_kept = False
-            self._log(session, "isn't kept: %s" % error)
+            why = str(error)
+        if (why is not None) == (file in session.lost):
+            return []
+        session.lost ^= {file}
+        self._log(session, "isn't kept: %s" % why if why else "is kept again")
+        return [(NOT_KEPT if why else KEPT_AGAIN) % file]
 
     async def _working(self, _: "web.Application"):  # noqa: ANN202: aiohttp's way to begin and end something with the server
         tasks = [asyncio.ensure_future(work()) for work in (self._look, self._make_ahead)]
@@ -325,14 +349,15 @@ class Service:
         """Looks again and again what sessions use, and ends those that use too much."""
         while True:
             await asyncio.sleep(LOOK_SECONDS)
-            self._end_silent()
+            if self._wires:
+                self._wires.end_silent()
             found = usage.of_groups([session.process for session in self.sessions if session.process])
             for session in list(self.sessions):
                 used = found.get(session.process, usage.Usage())
                 self._share(session, used.seconds)
                 words = self._spent(used)
-                if words and not session.spent.done():
-                    session.spent.set_result((SPENT, words))
+                if words:
+                    _spend(session, (SPENT, words))
 
     def _share(self, session: Session, seconds: float) -> None:
         """Puts a session behind the others that has had too much of the processor."""
@@ -341,14 +366,6 @@ class Service:
         if owes and not session.is_behind:
             session.is_behind = True
             nursery.put_behind(session.process)
-
-    def _end_silent(self) -> None:
-        """Ends connections that haven't asked for anything in their time."""
-        now = time.monotonic()
-        there = [handler.transport for handler in self._connections() if handler.transport is not None]
-        self._seen = {transport: self._seen.get(transport, now) for transport in there}
-        for transport in [one for one, since in self._seen.items() if now - since > ASK_SECONDS]:
-            transport.abort()
 
     def _spent(self, used: usage.Usage) -> Optional[str]:
         """Why a session may use no more."""
@@ -360,8 +377,7 @@ class Service:
 
     async def _shut(self, _: "web.Application") -> None:
         for session in self.sessions:
-            if not session.spent.done():
-                session.spent.set_result((WSCloseCode.GOING_AWAY, "the server is started anew"))
+            _spend(session, (WSCloseCode.GOING_AWAY, "the server is started anew"))
         end = asyncio.get_running_loop().time() + END_SECONDS
         while self.sessions and asyncio.get_running_loop().time() < end:
             await asyncio.sleep(0.02)
@@ -373,6 +389,18 @@ def _middleware(guard):  # noqa: ANN001, ANN202
     async def called(request: "web.Request", handler: object) -> "web.StreamResponse":
         return await guard(request, handler)
     return called
+
+
+def _wire(request: "web.Request") -> Optional[Wire]:
+    """The connection by which a request has come, if it is still there."""
+    wire = request.transport.get_protocol() if request.transport is not None else None
+    return wire if isinstance(wire, Wire) else None
+
+
+def _spend(session: Session, end: End) -> None:
+    """Has a session end so, if it doesn't end yet."""
+    if not session.spent.done():
+        session.spent.set_result(end)
 
 
 def _is_file(path: Path) -> bool:
@@ -412,26 +440,28 @@ async def _close(session: Session, end: End) -> None:
             session.transport.abort()
 
 
-async def _tell(reader: asyncio.StreamReader, page: "web.WebSocketResponse", take: Callable[[List[Dict[str, Any]]], None]) -> End:
+async def _tell(reader: asyncio.StreamReader, page: "web.WebSocketResponse", take: Callable[[List[Dict[str, Any]]], List[str]]) -> End:
     """Hands a bridge's messages to its page, but for those that tell how far it is. What the page doesn't read, the bridge can't write."""
     messages, bytes_ = Bucket(ANSWERS * MESSAGES, ANSWERS * MOST_MESSAGES), Bucket(BYTES, MOST_BYTES)
     while True:
         body = await _body(reader)
         if body is None:
             return ENDED, "the bridge has ended: it begins anew"
-        if body.startswith(MARK):
-            take(params(body))
-            continue
-        if len(body) > MESSAGE_BYTES:
+        texts = list(map(_warning, take(params(body)))) if body.startswith(MARK) else [body.decode("ascii")]
+        if max(map(len, texts), default=0) > MESSAGE_BYTES:
             return ENDED, "an answer has more than %d MB: this page begins anew" % (MESSAGE_BYTES >> 20)
-        if page.closed:
-            continue  # The rest is read, so that the bridge comes to its end.
-        await messages.wait(1)
-        await bytes_.wait(len(body))
-        try:
-            await asyncio.wait_for(page.send_str(body.decode("ascii")), SEND_SECONDS)
-        except (asyncio.TimeoutError, ConnectionError):
-            return ENDED, "the page reads nothing"
+        for text in () if page.closed else texts:  # Of a page that is closed the rest is read, so that the bridge comes to its end.
+            await messages.wait(1)
+            await bytes_.wait(len(text))
+            try:
+                await asyncio.wait_for(page.send_str(text), SEND_SECONDS)
+            except (asyncio.TimeoutError, ConnectionError):
+                return ENDED, "the page reads nothing"
+
+
+def _warning(words: str) -> str:
+    """A message that has a page show these words."""
+    return json.dumps({"jsonrpc": "2.0", "method": "window/showMessage", "params": {"type": 2, "message": words}})
 
 
 async def _body(reader: asyncio.StreamReader) -> Optional[bytes]:
