@@ -8,8 +8,8 @@ Each page opens its text in a session of its own, waits until all is known, and 
 seconds: from the message until the answer with the goals behind that step, a key's time is measured. `--origin` is what the server's has, where it
 isn't the address. The sessions are processes' threads here: where they wait for the processor of this machine, their times have that too.
 
-  --hostile N    in the second half of the time so many pages do what costs most: floods of edits, steps that never end, answers that aren't read. Shown is by
-                 how much that slows the others
+  --hostile N    in the second half of the time so many pages do what costs most: floods of edits, steps that never end, answers that aren't read, frames with
+                 nothing in them. Shown is by how much that slows the others
   --idle         the pages do nothing once they have begun
   --stay S       each page leaves after some S seconds, and another one comes in its place
   --pid PID      the server runs here as this process: its programs, files and memory are shown, before, each minute, at the end and once all pages have left
@@ -169,7 +169,7 @@ class Class:
             try:
                 page = self.page()
                 page.connection.settimeout(1)
-                (self.flood, self.compute, self.unread)[number % 3](page)
+                (self.flood, self.compute, self.unread, self.empty)[number % 4](page)
             except (OSError, Closed, ValueError):
                 time.sleep(0.1)
 
@@ -191,6 +191,12 @@ class Class:
         page.open("")
         while time.monotonic() < self.end:
             page.socket.send(b'{"jsonrpc":"2.0","id":1,"method":"hol/manual","params":{}}')
+
+    def empty(self, page):
+        """Frames that hold nothing."""
+        page.open("")
+        while time.monotonic() < self.end:
+            page.connection.sendall(b"\x89\x80\0\0\0\0" * 1000)
 
     def rest(self):
         """Has all pages begin, so many at once, and do nothing."""
@@ -225,10 +231,10 @@ class Class:
 
 
 class Watch:
-    """What the server has: its processes with all that they started, its open files, and the memory of all."""
+    """What the server has: its processes with all that they started, their open files, and the memory of all; `minutes` is what it had minute by minute."""
 
     def __init__(self, pid):
-        self.pid, self.over = pid, threading.Event()
+        self.pid, self.over, self.minutes = pid, threading.Event(), []
 
     def tree(self):
         """The numbers of the processes."""
@@ -251,9 +257,9 @@ class Watch:
         return had, waited
 
     def now(self):
-        """How many processes there are, how many files the server has open, and the megabytes of all and of the server alone."""
+        """How many processes there are, how many files they have open, and the megabytes of all and of the server alone."""
         tree = self.tree()
-        return len(tree), len(listed("/proc/%d/fd" % self.pid)), sum(map(megabytes, tree)), megabytes(self.pid)
+        return len(tree), sum(len(listed("/proc/%d/fd" % process)) for process in tree), sum(map(megabytes, tree)), megabytes(self.pid)
 
     def show(self, when):
         """Prints it, and answers it."""
@@ -262,10 +268,10 @@ class Watch:
         return now
 
     def each_minute(self):
-        """Prints it each minute, until it is over."""
+        """Prints it each minute, until it is over, and notes it."""
         begun = time.monotonic()
         while not self.over.wait(60):
-            self.show("after %d s" % (time.monotonic() - begun))
+            self.minutes.append(self.show("after %d s" % (time.monotonic() - begun)))
 
 
 def listed(folder):

@@ -7,9 +7,9 @@ Each load starts `holls serve` anew, with the program that it finds (a Python th
 beside it, which take their part of this machine's processors: on a quiet machine, then, else the times are those of what else it does.
 
   class    N pages type a key every two seconds, for a minute
-  hostile  the same for a minute, in whose second half three pages mean ill
+  hostile  the same for a minute, in whose second half four pages mean ill
   idle     so many pages begin and do nothing; their programs go once they doze
-  soak     a fifth as many pages come, type and go for M minutes: what the server has before and behind it
+  soak     a fifth as many pages come, type and go for M minutes: what the server has in the last quarter beside the second one, and when all have left
   proxy    HAProxy in front of two servers, of which one is killed while pages type: how soon all of them go on, with what they had
 """
 
@@ -34,8 +34,9 @@ import load  # noqa: E402
 ROOT = pathlib.Path(__file__).resolve().parent.parent
 HOLLS = ROOT / "clients" / "bin" / "holls"
 KEYS_SECONDS, PROXY_SECONDS, DOZE = 60, 40, 10
-HOSTILE, PROXIED, LOST = 3, 40, 10
+HOSTILE, PROXIED, LOST = 4, 40, 10
 MEGABYTES = 8 * 1024
+STAY = 20  # So many seconds a page of the soak is there.
 PAGE_TIME, KEY_TIME = 80, 10
 """What a page that begins and a key may take of the processors, in milliseconds: by the latter 200 pages that type a key every two seconds keep one processor
 busy. Other work on the machine changes these little; how long is waited for a processor is told beside them."""
@@ -156,25 +157,34 @@ def idle(pages):
 
 
 def soak(pages, minutes):
-    with Server("--sessions", str(pages + 10), "--each", str(pages + 10)) as server:
+    with Server("--sessions", str(pages + 10), "--each", str(10 * pages)) as server:  # As many as come: one leaves, and another one begins.
         watch = load.Watch(server.process.pid)
-        measured = load.Class(given_words(server.address, "--sessions", pages, "--seconds", 60 * minutes, "--stay", 20))
+        measured = load.Class(given_words(server.address, "--sessions", pages, "--seconds", 60 * minutes, "--stay", STAY))
         before = watch.show("before")
         threading.Thread(target=watch.each_minute, daemon=True).start()
         measured.run()
         watch.over.set()
         yield failed(measured)
-        yield "pages that came", -len(measured.begun), -pages
+        yield "pages that came", -len(measured.begun), -round(pages * minutes * 60 / STAY / 2)
+        yield from grown(watch.minutes, pages)
         yield from given_back(watch, before)
+
+
+def grown(minutes, pages):
+    """What the server has more in the last quarter of some minutes than in the second one, in which all is as it goes on."""
+    quarter = len(minutes) // 4
+    if quarter:
+        early, late = (list(map(statistics.median, zip(*some))) for some in (minutes[quarter:2 * quarter], minutes[-quarter:]))
+        for at, (what, most) in enumerate((("processes", 4), ("files", 40), ("MB in all", pages), ("MB of the server", 2))):
+            yield what + " more at the end of the soak", max(0, late[at] - early[at]), most
 
 
 def given_back(watch, before):
     """What the server has when all have left, beside what it had before."""
     time.sleep(10)  # So long bridges may take to end.
     after = watch.show("when all have left")
-    yield "processes more than before", after[0] - before[0], 0
-    yield "files more than before", after[1] - before[1], 2
-    yield "MB of the server more than before", after[3] - before[3], 30
+    for at, (what, most) in enumerate((("processes", 0), ("files", 2), ("MB in all", 30), ("MB of the server", 30))):
+        yield what + " more than before", max(0, after[at] - before[at]), most
 
 
 class Timed(load.Class):

@@ -4,6 +4,8 @@ import asyncio
 import gc
 import os
 import pathlib
+import subprocess
+import sys
 import tempfile
 import threading
 import time
@@ -13,7 +15,7 @@ from holls.api import BadQuery, Kind, NoServer, ProgramDied, Project, Prover, Pr
 from holls.api.channel import Broken, Channel, TooSlow
 from holls.api.premises import Ranking, symbols
 from holls.protocol import Goal
-from tests.helpers import BUILT, ROOT, fake
+from tests.helpers import BUILT, CLIENTS, ROOT, fake
 
 THEORIES = str(ROOT / "theories")
 PATIENT = 120.0
@@ -23,6 +25,28 @@ SOON = 3.0
 STEPS = ("GEN_TAC", "CONJ_TAC", "EQ_TAC", "DISCH_TAC", "STRIP_TAC", "REPEAT STRIP_TAC", "REPEAT GEN_TAC THEN EQ_TAC", "REWRITE_TAC []",
          "REPEAT STRIP_TAC THEN ASM_REWRITE_TAC []", "REWRITE_TAC [LENGTH; APPEND]", "REPEAT GEN_TAC THEN REWRITE_TAC [FORALL_SIMP]", "BETA_TAC")
 """What is tried of each goal."""
+
+
+WORKER = """import sys, time
+sys.path.insert(0, sys.argv[1])
+from holls.api import Project, Prover
+from tests.test_api import STEPS, seconds_of
+with Prover(sys.argv[2]) as prover:
+    logic = Project(prover, sys.argv[3] + "/logic.hol").theory("logic")
+    states = [logic.prove("GOAL", statement).state for statement in list(logic.statements.values())[::8]]
+    for line in sys.stdin:
+        steps = [step + " " * (8 * int(line) + more) for more in range(4) for step in STEPS]
+        own, its = time.process_time(), seconds_of(prover.pids[0])
+        count = sum(len(state.apply_all(steps)) for state in states)
+        print(count / (time.process_time() - own + seconds_of(prover.pids[0]) - its), flush=True)
+"""
+"""A program that tries steps whenever it is told so, each time others, and says how many a second of the processor."""
+
+
+def seconds_of(pid):
+    """The processor time of a process of one thread."""
+    with open("/proc/%d/schedstat" % pid) as stream:
+        return int(stream.read().split()[0]) / 1e9
 
 
 def open_files():
@@ -472,10 +496,32 @@ class OverTheProgram(unittest.TestCase):
         self.assertGreaterEqual(max(rates), 5000, (rates, shares))
         self.assertLessEqual(min(shares), 0.5, (rates, shares))
 
+    @unittest.skipIf((os.cpu_count() or 1) < 4, "there are no four processors")
+    def test_four_side_by_side_do_three_and_a_half_times_as_much_as_one(self):
+        """In processor time, of four processes of Python with a program each: a step of four costs hardly more than one of one alone, the best of some rounds.
+        (bench/states.py --four shows it by the clock, where nothing else runs.)"""
+        workers = [subprocess.Popen([sys.executable, "-c", WORKER, str(CLIENTS), str(BUILT), THEORIES], stdin=subprocess.PIPE, stdout=subprocess.PIPE)
+                   for _ in range(4)]
+        for worker in workers:
+            self.addCleanup(worker.communicate)
+        self._rates(workers, 0)  # So that none is cold.
+        times = []
+        while len(times) < 6 and max(times, default=0) < 3.5:
+            alone, = self._rates(workers[:1], 2 * len(times) + 1)
+            times.append(sum(self._rates(workers, 2 * len(times) + 2)) / alone)
+        self.assertGreaterEqual(max(times), 3.5, times)
+
+    @staticmethod
+    def _rates(workers, number):
+        """The steps a second of each, all at once."""
+        for worker in workers:
+            worker.stdin.write(b"%d\n" % number)
+            worker.stdin.flush()
+        return [float(worker.stdout.readline()) for worker in workers]
+
     def _seconds(self):
         """The processor time of the program."""
-        with open("/proc/%d/schedstat" % self.prover.pids[0]) as stream:
-            return int(stream.read().split()[0]) / 1e9
+        return seconds_of(self.prover.pids[0])
 
     def _kilobytes(self):
         """The memory of this process and of its program."""

@@ -16,6 +16,11 @@ import zipfile
 from tests.helpers import CLIENTS, HOLLS, PYTHON, ROOT, SECONDS, fake, proofs
 
 
+def released():
+    """The newest release, by release/CHANGELOG.md."""
+    return re.search(r"(?m)^## ([0-9.]+),", (ROOT / "release" / "CHANGELOG.md").read_text(encoding="utf-8")).group(1)
+
+
 class Package(unittest.TestCase):
     def test_it_is_made_and_its_bridge_runs(self):
         with tempfile.TemporaryDirectory() as name:
@@ -28,6 +33,7 @@ class Package(unittest.TestCase):
                 for page in ("[Content_Types].xml", "extension.vsixmanifest"):
                     xml.dom.minidom.parseString(package.read(page))
                 about = json.loads(package.read("extension/package.json"))
+                self.assertEqual(about["version"], released())
                 inside = set(package.namelist())
                 settings = about["contributes"]["configuration"]["properties"]
                 for name in ("holls.command", "holls.server"):  # What a folder's own settings may not name.
@@ -55,8 +61,8 @@ class Package(unittest.TestCase):
             with zipfile.ZipFile(folder / ran.stdout.decode().strip()) as wheel:
                 wheel.extractall(folder / "made")
                 inside = wheel.namelist()
-                record = wheel.read("hol_serve-0.2.0.dist-info/RECORD").decode().splitlines()
-                said = wheel.read("hol_serve-0.2.0.dist-info/METADATA").decode()
+                record = wheel.read("hol_serve-%s.dist-info/RECORD" % released()).decode().splitlines()
+                said = wheel.read("hol_serve-%s.dist-info/METADATA" % released()).decode()
             self.assertEqual([line.split(",")[0] for line in record], inside)
             self.assertEqual({one for one in inside if one.endswith(".py")},
                              {path.relative_to(CLIENTS).as_posix() for path in (CLIENTS / "holls").rglob("*.py")})
