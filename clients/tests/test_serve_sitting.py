@@ -1,5 +1,6 @@
 """A course of ten exercises is given, done, watched and graded: a teacher and three students with browsers of their own, over `holls serve` and the program."""
 
+import os
 import re
 import subprocess
 import sys
@@ -50,6 +51,23 @@ class Sitting(Served):
             sent = {path.name: path.read_text() for path in (COURSE / "work" / name).glob("*.hol")}
             self.until(lambda: self.texts(name) == sent)
         self.assertEqual(self.graded("--work", str(self.kept)), self.graded())
+
+    def test_a_student_sees_what_cannot_be_kept(self):
+        page, banner = self.student("ada"), "document.getElementById('banner')"
+        self.write(page, "ada", "equations")
+        self.until(lambda: (self.kept / "ada" / "equations.hol").exists())
+        os.rename(self.kept, self.room / "away")
+        self.kept.write_text("no folder any more")
+        page.value("document.getElementById('text').focus(), document.getElementById('text').setSelectionRange(0, 0)")
+        page.type("(* more *) ")
+        page.until("!%s.hidden && %s.innerText.startsWith(\"The server can't keep what you write in equations any more\")" % (banner, banner))
+        page.click("#banner button")
+        self.assertTrue(page.value(banner + ".hidden"))
+        self.kept.unlink()
+        os.rename(self.room / "away", self.kept)
+        page.type("(* again *) ")
+        page.until("%s.innerText.startsWith('What you write in equations is kept again')" % banner)
+        self.assertEqual(page.complaints, [])
 
     def rows(self, teacher):
         """What the teacher's page shows, by the students' names."""
