@@ -37,6 +37,11 @@ def tokens(text: str) -> int:
     return len(_TOKEN.findall(text))
 
 
+def _is_longer(text: str, most: int) -> bool:
+    """Whether a text has more tokens than so many."""
+    return len(text) > most and tokens(text) > most
+
+
 def joined(steps: Steps) -> str:
     """A proof as one expression."""
     return " THEN ".join(one if isinstance(one, str) else "%s THENL [%s]" % (one[0], "; ".join(joined(part) for part in one[1])) for one in steps)
@@ -45,13 +50,13 @@ def joined(steps: Steps) -> str:
 def commands(steps: Steps) -> List[str]:
     """A proof as one expression where its tokens allow it, else cut where goals part, and before that between steps."""
     whole = joined(steps)
-    if tokens(whole) <= _STEP_TOKENS:
+    if not _is_longer(whole, _STEP_TOKENS):
         return [whole]
     found: List[str] = []
     current: Steps = []
     for one in steps:
         if isinstance(one, str):
-            if current and tokens(joined(current + [one])) > _STEP_TOKENS:
+            if current and _is_longer(joined(current + [one]), _STEP_TOKENS):
                 found.append(joined(current))
                 current = []
             current.append(one)
@@ -136,7 +141,7 @@ class Output:
         """Raises `Misread` at the package's word where a command would be too long, or make a theorem whose name is given away."""
         for text, _, span, _ in self.plain:
             where = span or (0, end)
-            if tokens(text) > MOST_TOKENS:
+            if _is_longer(text, MOST_TOKENS):
                 raise Misread(*where, "this %s takes a command of %d tokens (`%s ..`), and %d are the limit: fewer constructors, clauses or arguments" % (
                     word, tokens(text), " ".join(text.split()[:2]), MOST_TOKENS))
         for name in self.asking.own.theorems:

@@ -2,6 +2,7 @@
 
 from __future__ import annotations
 
+from functools import lru_cache
 from typing import Callable, FrozenSet, List, Optional, Set, Tuple
 
 from holls.packages.terms import BOOL, LOGIC, Term, Type, args_of, arity, is_binder, spine, tyshow, typeof, tyvars, walk
@@ -37,7 +38,7 @@ class _Printer:
             return _bracketed("~" + self.term(arguments[0], _NEGATION, bound), level > _NEGATION)
         name = self.constant(head, len(arguments)) if head[0] == "c" else self.term(head, _ARGUMENT, bound)
         shown = " ".join([name] + [self.term(one, _ARGUMENT, bound) for one in arguments])
-        if head[0] == "c" and self.is_open(head, len(arguments)):
+        if head[0] == "c" and _is_open(LOGIC[head[1]] if head[1] in LOGIC else self.type_of(head[1]), len(arguments)):
             return "(%s:%s)" % (shown, tyshow(typeof(term)))
         return _bracketed(shown, bool(arguments) and level > _FUNCTION)
 
@@ -63,13 +64,14 @@ class _Printer:
         name = head[1]
         return "(%s)" % name if name in LOGIC and not name.isidentifier() else name
 
-    def is_open(self, head: Term, number: int) -> bool:
-        """Whether a constant's arguments don't say all of its type."""
-        general = LOGIC[head[1]] if head[1] in LOGIC else self.type_of(head[1])
-        most = arity(general)
-        arguments, result = args_of(general, min(number, most))
-        said = {name for one in arguments for name in tyvars(one)}
-        return number <= most and bool(set(tyvars(result)) - said)
+
+@lru_cache(4_096)
+def _is_open(general: Type, number: int) -> bool:
+    """Whether so many arguments of a constant don't say all of its type."""
+    most = arity(general)
+    arguments, result = args_of(general, min(number, most))
+    said = {name for one in arguments for name in tyvars(one)}
+    return number <= most and bool(set(tyvars(result)) - said)
 
 
 def _bracketed(text: str, is_needed: bool) -> str:

@@ -160,27 +160,47 @@ class TypeCommands:
 
     def _equations(self) -> None:
         distinct, injective = self._pairs()
-        each = "%%s THEN DISCH_TAC THEN REPEAT CONJ_TAC THEN REPEAT GEN_TAC THEN %s THEN FIRST_ASSUM MATCH_MP_TAC THEN %s" % (
-            self.definitions, self._counted("; sum_INJECTIVE; sum_DISTINCT; INR_NOT_INL"))
-        apart = each % self._with("pk_MADE_NE") if self.is_plain else self._tagged()
-        for kind, parts, proof in (("DISTINCT", distinct, apart), ("INJECTIVE", injective, each % self._with("pk_MADE_EQ") + self._injected())):
+        one = "%s THEN DISCH_TAC THEN REPEAT CONJ_TAC THEN REPEAT GEN_TAC THEN %s THEN FIRST_ASSUM MATCH_MP_TAC THEN %s" % (
+            self._with("pk_MADE_EQ"), self.definitions, self._counted("; sum_INJECTIVE"))
+        for kind, parts, proof in (("DISTINCT", distinct, self._apart()), ("INJECTIVE", injective, one + self._injected())):
             for number, part in enumerate(chunks(parts)):
                 self.out.prove("%s_%s%s" % (self.name, kind, number + 1 if number else ""), " /\\ ".join(part), proof, PUBLIC)
 
-    def _tagged(self) -> str:
-        """The steps by which constructors are apart by their tags, lists of bits, which are made here: the labels tell them apart too, but have large types,
-        and there are as many pairs as constructors squared."""
-        layout, constant, bits = self.layout, "pk_%s_TAG" % self.name, "bool list"
-        tags = [_tag(at, layout.count) for at in range(layout.count)]
-        self.out.put("new_definition %s_DEF `%s = @%s:%s->%s. %s`" % (
-            constant, constant, layout.function, layout.tight, bits, layout.every(lambda at: "%s %s = %s" % (layout.function, layout.term(at), tags[at]))))
+    def _apart(self) -> str:
+        """The steps by which constructors are apart: by a function that has another list of bits at each, which is put into all equations."""
+        layout = self.layout
+        if not self.is_plain:
+            tags = self._tags()
+            told = "SPEC `%s:%s->bool list` (INST_TYPE [`:%s`,`:A`] pk_TOLD)" % (tags, layout.tight, layout.type)
+            return "REPEAT CONJ_TAC THEN ONCE_REWRITE_TAC [%s] THEN REWRITE_TAC [%s; pk_TAGS; FORALL_SIMP]" % (told, tags)
+        function = "%s:%s->bool list" % (layout.function, layout.tight)
+        told = "!x y. x = y <=> (%s) x = %s y /\\ x = y" % (function, layout.function)
+        return " THEN ".join((
+            "MP_TAC %s THEN BETA_TAC THEN DISCH_THEN (X_CHOOSE_TAC `%s`)" % (self._tagging(), function),
+            "ASSUME_TAC (SPEC `%s` (INST_TYPE [`:%s`,`:A`] pk_TOLD))" % (function, layout.type),
+            "ONCE_REWRITE_TAC [ASSUME `%s`] THEN REWRITE_TAC [ASSUME `%s`; pk_TAGS; FORALL_SIMP]" % (told, self._tagged("(%s)" % function))))
+
+    def _tags(self) -> str:
+        """The constant that is such a function, for many constructors: there are as many pairs as constructors squared, and none of them has an assumption."""
+        layout, constant = self.layout, "pk_%s_TAG" % self.name
+        self.out.put("new_definition %s_DEF `%s = @%s:%s->bool list. %s`" % (
+            constant, constant, layout.function, layout.tight, self._tagged(layout.function)))
         self.out.made(constant + "_DEF", None)
+        self.out.prove(constant, self._tagged(constant), _chosen(self._tagging(), constant + "_DEF"))
+        return constant
+
+    def _tagged(self, function: str) -> str:
+        """That a function has its list of bits at each constructor."""
+        layout = self.layout
+        return layout.every(lambda at: "%s %s = %s" % (function, layout.term(at), _tag(at, layout.count)))
+
+    def _tagging(self) -> str:
+        """The theorem that there is such a function."""
+        layout, bits = self.layout, "bool list"
         recursion = "(INST_TYPE [`:%s`,`:%s`] %s)" % (bits, self.result, self.data.recursion)
         for at in range(layout.count):
-            recursion = "(SPEC `%s` %s)" % (_constant_function(layout, at, bits, "(%s:%s)" % (tags[at], bits)), recursion)
-        self.out.prove(constant, layout.every(lambda at: "%s %s = %s" % (constant, layout.term(at), tags[at])), _chosen(recursion, constant + "_DEF"))
-        different = "SPEC `%s:%s->%s` (INST_TYPE [`:%s`,`:A`] pk_DIFFERENT)" % (constant, layout.tight, bits, layout.type)
-        return "REPEAT CONJ_TAC THEN REPEAT GEN_TAC THEN MATCH_MP_TAC (%s) THEN REWRITE_TAC [%s; pk_TAGS]" % (different, constant)
+            recursion = "(SPEC `%s` %s)" % (_constant_function(layout, at, bits, "(%s:%s)" % (_tag(at, layout.count), bits)), recursion)
+        return recursion
 
     def _pairs(self) -> Tuple[List[str], List[str]]:
         """That constructors are apart, and that one of equal ones has equal arguments."""
