@@ -48,9 +48,15 @@ def theorems(commands):
             yield from words[4:6]
 
 
+def spent():
+    """What this process and its program have had of the processors, in seconds."""
+    return time.process_time() + PROGRAM[0].processor_seconds()
+
+
 def run(job):
-    """Makes a batch. Answers its package, how many are made, what is wrong, and what the program refuses."""
+    """Makes a batch. Answers its package, how many are made, what is wrong, what the program refuses, and the processors' seconds for it."""
     package, seed, number = job
+    begun = spent()
     made, wrong, file = corrected(Declarations(seed).some(number, PACKAGES[package]), read)
     commands = [one.text for one in file.commands]
     refused = ["%s isn't a package's" % one for one in commands if one.split()[0] not in WORDS]
@@ -60,7 +66,7 @@ def run(job):
         reports = ((one, PROGRAM[0].report(at)) for at, one in enumerate(commands))
         refused += ["%s: %s" % (one, report) for one, report in reports if not isinstance(report, (Goals, Made))]
     PROGRAM[0].forget()
-    return package, len(made), wrong, refused
+    return package, len(made), wrong, refused, spent() - begun
 
 
 def main():
@@ -69,12 +75,13 @@ def main():
         print("declarations: there is no program %s" % BUILT)
         return 1
     number, seed = (int(word) for word in (sys.argv[1:] + ["1000", "1"][len(sys.argv) - 1:])[:2])
-    begun, made, wrong, refused = time.monotonic(), dict.fromkeys(PACKAGES, 0), [], []
+    begun, made, wrong, refused, seconds = time.monotonic(), dict.fromkeys(PACKAGES, 0), [], [], 0.0
     jobs = [(package, seed * 1_000_000 + at, min(TOGETHER, number - at)) for at in range(0, number, TOGETHER) for package in PACKAGES]
     library()
     with multiprocessing.Pool(os.cpu_count() or 1, begin) as pool:
-        for package, some, told, errors in pool.imap_unordered(run, jobs):
+        for package, some, told, errors, had in pool.imap_unordered(run, jobs):
             made[package] += some
+            seconds += had
             wrong += told
             refused += errors
     for one in refused[:40]:
@@ -82,8 +89,8 @@ def main():
     is_wrong = len(wrong) > MOST_WRONG * number * len(PACKAGES)
     for commands, said in wrong if is_wrong else wrong[:3]:
         print("told as wrong: %s: %s" % (said, text([commands])[:200].replace("\n", " ")))
-    print("declarations: %s, %d told as wrong, %d refused, %.1f s" % (
-        ", ".join("%d %s" % (some, package) for package, some in made.items()), len(wrong), len(refused), time.monotonic() - begun))
+    print("declarations: %s, %d told as wrong, %d refused, %.1f s, %.1f s of the processors" % (
+        ", ".join("%d %s" % (some, package) for package, some in made.items()), len(wrong), len(refused), time.monotonic() - begun, seconds))
     return 1 if refused or is_wrong or not all(made.values()) else 0
 
 
