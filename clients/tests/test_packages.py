@@ -114,6 +114,9 @@ class Types(unittest.TestCase):
         self.assertEqual(statements["t_INDUCTION"], "!P'. (!(a':num). P' (P a')) /\\ (!(a':t). P' a' ==> P' (fn a')) /\\ "
                          "(!(a':t). P' a' ==> P' (a a')) /\\ (P' (f1:t)) ==> !x. P' x")
         self.assertIn("?fn':t->Z. (!(a':num). fn' (P a') = f'0 a')", statements["t_RECURSION"])
+        statements = {one.name: one.text for one in names.written(read("define_type Z = C | D Z;;\ndefine_type u = E Z;;"))}
+        self.assertEqual(statements["Z_RECURSION"], "!(f0:Z') (f1:Z->Z'->Z'). ?fn:Z->Z'. (fn (C:Z) = f0) /\\ (!(a:Z). fn (D a) = f1 a (fn a))")
+        self.assertEqual(statements["u_RECURSION"], "!(f0:Z->Z'). ?fn:u->Z'. (!(a:Z). fn (E a) = f0 a)")
 
     def test_the_types_of_the_librarys_constants_are_found_once(self):
         text = "define FN%d `FN%d l m = LENGTH (APPEND l m) + 1`;;"

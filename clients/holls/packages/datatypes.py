@@ -188,7 +188,7 @@ def analysed(written: Written, asking: Asking) -> Data:
     if all("r" in one.kinds for one in constructors):
         raise Misread(*where, "`%s` would have no element: each constructor takes one of it; begin with one that takes none" % name)
     result = "Z"
-    while result in types.parameters:
+    while result in types.parameters or result == name or asking.arity_of(result) is not None:
         result += "'"
     found = Data(name, tuple(types.parameters), constructors, name + INDUCT, name + SPLIT, name + "_CASE", name + "_CASE", name + "_RECURSION", result, "")
     has_parts = any("r" in one.kinds for one in constructors)
