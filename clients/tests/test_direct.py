@@ -2,6 +2,7 @@
 
 import functools
 import pathlib
+import random
 import unittest
 
 from holls import check
@@ -10,6 +11,7 @@ from holls.surface.errors import Misread
 from holls.surface.plain import PlainWriter
 from holls.surface.reader import Reader
 from holls.surface.shown import Printer, Unprintable
+from holls.surface.table import PERHAPS
 from holls.surface.vocabulary import Asked
 from tests import random_terms
 
@@ -43,6 +45,30 @@ def scrambled(source, parts):
         else:
             made.insert(to, made[at] if change == "double" else source.choice(MORE))
     return " ".join(made)
+
+
+def of_type(source, depth):
+    """A random type."""
+    kind = source.randrange(8) if depth else 0
+    one, other = (of_type(source, depth - 1) for _ in range(2)) if kind > 2 else ("", "")
+    return (source.choice(("A", "num", "T'")), "", "", one + " list", "(%s)list" % one, "(%s)" % one, "(%s,%s)prod" % (one, other), one + "->" + other)[kind] or "B"
+
+
+def variable(source):
+    """A random variable."""
+    name, kind = source.choice(("x", "f", "x'")), source.randrange(4)
+    return name if not kind else ("%s:%s" if kind < 3 else "(%s:%s)") % (name, of_type(source, 3))
+
+
+def bound(source, depth):
+    """A random term of binders and connectives."""
+    kind = source.randrange(6) if depth else 0
+    if not kind:
+        return source.choice(("x", "R x y", "(x:A)", "(f:A->B) x"))
+    if kind < 4:
+        variables = source.choice((" ", " ", "")).join(variable(source) for _ in range(source.randrange(1, 4)))
+        return "%s%s. %s" % (source.choice(("!", "?", "\\", "@", "?!")), variables, bound(source, depth - 1))
+    return "(%s) %s %s" % (bound(source, depth - 1), source.choice(("/\\", "==>", "=")), bound(source, depth - 1))
 
 
 class Straight(unittest.TestCase):
@@ -82,6 +108,16 @@ class Straight(unittest.TestCase):
             straight += self.compare(shown, over, random_terms.VOCABULARY)
             straight += self.compare(scrambled(source.random, over.parts.findall(shown)), over, random_terms.VOCABULARY)
         self.assertGreater(straight, 1_500)
+
+    def test_what_seems_to_have_nothing_of_notation_has_nothing(self):
+        """By two expressions, which are looked for before a quotation is read: random binders over variables with types and without."""
+        source, over, skipped = random.Random(3), random_terms.table(), 0
+        for _ in range(2_000):
+            text = bound(source, 3)
+            if not over.notation.search(text) and not PERHAPS.search(text):
+                self.assertIn(by_the_reader(text, over, random_terms.VOCABULARY), (None, text), text)
+                skipped += ":" in text
+        self.assertGreater(skipped, 300)
 
     def test_numerals_and_brackets(self):
         over = random_terms.table()

@@ -24,8 +24,10 @@ _WORD = re.compile(r"[A-Za-z_][A-Za-z0-9_']*\Z")
 RUN = re.compile(r"[-+*/<>=&|^%#$~!?@:\\]+|\.\.+")
 """A run of the characters that operators are made of."""
 _NOT_PLAIN = r"\.\.|[{}\[\]|;+*#&^%$]|<(?!=>)|-(?!>)|(?<!<=)(?<!==)(?<!-)>|(?<!\\)/(?!\\)|(?<![A-Za-z0-9_'?])[0-9]|\(\s*:"
-PERHAPS = re.compile(r",|[A-Za-z0-9_')]\s*(?:\\(?!/)|[!?@])|[!?\\@][^.]*:")
-"""What a quotation has that may be written in notation: a comma, a binder behind an operand, a binder's variable with a type."""
+_ANOTHER = r"[A-Za-z0-9_']\s+[A-Za-z_]|\)\s*[A-Za-z_]|[A-Za-z0-9_')]\s*\("
+PERHAPS = re.compile(r",|[A-Za-z0-9_')]\s*(?:\\(?!/)|[!?@])|[!?\\@](?:(?:[^.():!?\\@]|\([^()!?\\@]*\))*:[^.!?\\@]*?(?:%s)|[^.!?\\@]*\([^.()!?\\@]*\()" % _ANOTHER)
+"""What a quotation has that may be written in notation: a comma, a binder behind an operand, a binder's variable with a type, behind which there may be
+another variable, or which stands where parentheses stand in others. It is looked for from one binder to the next."""
 FORMS = {"if": ("condition",), "list": ("nil", "cons"), "set": ("empty", "insert", "universe"), "pair": ("pair", "uncurry"), "let": ("let",),
          "num": ("zero", "one", "even", "odd"), "1": ("unit",)}
 """The forms by the words that declare them, each with what its constants are to it."""
