@@ -100,7 +100,8 @@ class Notation:
 
     `misread` are the numbers of the commands that have an error; `declared` those of the declarations, which the program never gets; `simple` the
     theorems that `simp` names here; `exported` and `vocabulary` are what importing files have of this one. `number_read` commands were read for it:
-    those at the beginning are taken from the notation `before` the last change, as long as nothing can be otherwise there.
+    those at the beginning are taken from the notation `before` the last change, as long as nothing can be otherwise there; and those behind it too where
+    steps of proofs alone are others, and none is a package's.
     """
 
     def __init__(self, written: Sequence[Command], imported: Mapping[str, "Notation"], before: Optional["Notation"] = None) -> None:
@@ -128,22 +129,64 @@ class Notation:
         self._scope = NOTHING
         self._standing = NamesAt(self.names, 0)
         self._placed: Dict[int, replacing.Placed] = {}
-        kept = before._kept(written, imported) if before is not None else 0
-        if kept:
-            self._begin_as(before, kept)
-        self.number_read = len(written) - kept
-        self._read_from(kept)
+        if before is None or not self._take_steps(before):
+            self._take_all(before)
         self.exported = self._scope.exported
         self.vocabulary = Vocabulary({**constructors, **{name: number for name, (_, number) in self.names.constructors.items()}},
                                      {**constants, **self.names.constants})
         self._check_constants()
         self.misread = [number for number, command in enumerate(self.commands) if not command.text and command.error is not None]
 
+    def _take_all(self, before: Optional["Notation"]) -> None:
+        """Reads the commands, but for those at the beginning that are as they were before."""
+        kept = before._kept(self._written, self._over) if before is not None else 0
+        if kept:
+            self._begin_as(before, kept)
+        self.number_read = len(self._written) - kept
+        self._read_from(kept)
+
+    def _take_steps(self, before: "Notation") -> bool:
+        """Takes all from another notation, and reads the steps that are others: these change nothing of what stands behind them. Answers whether that is
+        so; where it isn't, nothing is taken."""
+        written = self._written
+        steps = before._other_steps(written) if before._is_over(self._over) else None
+        if steps is None:
+            return False
+        made: List[Command] = []
+        for at in steps:
+            self._scope = before._marks[at].scope
+            made.append(self._translate(at, written[at], written[at].word))
+        self._scope = NOTHING
+        if self.has_packages:
+            self.has_packages = False
+            return False
+        behind = zip(written[steps.stop:], before.commands[steps.stop:])
+        self.commands = [*before.commands[:steps.start], *made, *[Sent(now, one.translation) if isinstance(one, Sent) else now for now, one in behind]]
+        self.tables, self.declared, self._marks, self._scope, self.number_read = before.tables, before.declared, before._marks, before._scope, len(steps)
+        self.names.constants.update(before.names.constants)
+        self.names.constructors.update(before.names.constructors)
+        return True
+
+    def _other_steps(self, written: Sequence[Command]) -> Optional[range]:
+        """The commands that are others here, where these are steps of proofs, no package stands, and nothing is told of a place; else None."""
+        old = self._written
+        if self.has_packages or self.blemishes or len(written) != len(old):
+            return None
+        first = next((at for at, (one, other) in enumerate(zip(old, written)) if one is not other), len(old))
+        last = next((at for at in range(len(old) - 1, first - 1, -1) if old[at].text != written[at].text), first - 1)
+        steps = range(first, last + 1)
+        is_one = all(one.word == "e" and not forward.has_rules(one.text) for at in steps for one in (old[at], written[at]))
+        return steps if is_one else None
+
+    def _is_over(self, imported: Mapping[str, "Notation"]) -> bool:
+        """Whether the same is imported, and what that makes stand is as it was."""
+        return [one.key for one in imported.values()] == self._keys and all(one is self._over.get(name) for name, one in imported.items())
+
     def _kept(self, written: Sequence[Command], imported: Mapping[str, "Notation"]) -> int:
         """How many commands at the beginning are as they are here whatever stands behind them: where the same is imported, and no package stands that
         does more than to put something into a proof. A proof that the first other command may belong to isn't among them: what stands in front of it is
         found by its steps."""
-        if [one.key for one in imported.values()] != self._keys or any(one is not self._over.get(name) for name, one in imported.items()):
+        if not self._is_over(imported):
             return 0
         number = 0
         for old, new in zip(self._written, written):

@@ -6,7 +6,6 @@ import io
 import json
 import pathlib
 import random
-import subprocess
 import tempfile
 import unittest
 
@@ -19,7 +18,8 @@ from holls.prover.command import in_notation_at
 from holls.protocol import Goal, Goals, Made, Refusal
 from holls.text import cut
 from holls.view import PLAIN, View
-from tests.helpers import BUILT, HOLLS, PYTHON, ROOT
+from tests import forked
+from tests.helpers import BUILT, ROOT
 from tests.test_lsp import Editor
 
 NUMBERS = """new_type num 0;;
@@ -111,6 +111,25 @@ class InFiles(unittest.TestCase):
                 self.assertEqual(read(files[one]), read(afresh[one]), (number, one, texts))
             kept += len(files["B"].cut.commands) - files["B"].notation.number_read
         self.assertGreater(kept, 1000)
+
+    def test_behind_an_edited_step_nothing_is_read_anew(self):
+        """Random edits of steps, also into what is no step, can't be read, has rules, or is a package's."""
+        source, proof = random.Random(5), "g X%d `x + %d < n`;;\ne EXISTS_TAC `2 + x`;;\n  e ALL_TAC THEN REWRITE_TAC [X0];;\ne EXISTS_TAC `y + 1` (* c *);;\nqed;;\n"
+        steps = ["e EXISTS_TAC `%d + z`", "e ALL_TAC", "e EXISTS_TAC `1 +`", "e (* d *) EXISTS_TAC `x:num`", "e REWRITE_TAC [GSYM X0]", "e INDUCT_ON `x`", "qed", "e",
+                 "new_constant k `:num`", "e X `let y = 1 in y`", "", "let k = `1 + x`"]
+        begun = NUMBERS.replace("local infixl 18 ++ add2;;\n", "") + "".join(proof % (at, at) for at in range(8))
+        text, few = begun, 0
+        files = loaded(A=text, B="import A;;\n")
+        for number in range(120):
+            parts = text.split(";;")
+            at = source.choice([at for at, part in enumerate(parts) if part.lstrip().startswith("e")] or [len(parts) - 3])
+            step = source.choice(steps[:4] if source.random() < 0.8 else steps).replace("%d", str(source.randrange(9)))
+            text = ";;".join([*parts[:at], "\n" * source.randrange(3) + step, *parts[at + 1:]])
+            files["A"].take(text)
+            self.assertEqual(read(files["A"]), read(loaded(A=text, B="import A;;\n")["A"]), (number, text))
+            few += files["A"].notation.number_read <= 1
+            text = begun if number % 10 == 9 else text
+        self.assertGreater(few, 60)
 
     def test_what_the_library_declares_is_not_forgotten_by_a_look_at_all_files(self):
         """As a search of theorems, and what can be done about an error, look at them, and the bridge does by itself when all is known."""
@@ -378,11 +397,10 @@ class OverTheProgram(unittest.TestCase):
         with tempfile.TemporaryDirectory() as folder:
             path = pathlib.Path(folder) / "A.hol"
             path.write_text(self.TEXT)
-            words = [*PYTHON, str(HOLLS), "check", "--server", str(BUILT)]
-            found = subprocess.run([*words, str(path)], stdout=subprocess.PIPE, text=True, check=False)
+            found = forked.run("check", "--server", BUILT, path, text=True)
             self.assertEqual((found.returncode, found.stdout.splitlines()[-1].split(": ")[1]), (0, "17 commands, 1 theorem, 1 axiom, all accepted"))
             path.write_text(self.TEXT.replace("e DISCH_TAC THEN", "e CONJ_TAC THEN") + "g Y `x + T`;;")
-            found = subprocess.run([*words, "--json", str(path)], stdout=subprocess.PIPE, text=True, check=False)
+            found = forked.run("check", "--server", BUILT, "--json", path, text=True)
             told = [json.loads(line) for line in found.stdout.splitlines()]
             self.assertEqual(found.returncode, 1)
             self.assertEqual([one["plain"] for one in told if "no typing" in one.get("text", "")], ["g Y `add x T`"])
