@@ -46,7 +46,7 @@ def add_words(parser: argparse.ArgumentParser) -> None:
 
 def main(given: argparse.Namespace) -> int:
     """Checks the files: 0 where all commands are accepted and no proof is open, 1 where not, 2 where nothing can be checked."""
-    circles.look_seldom()
+    circles.hardly_look()
     try:
         program = server.find(given.server)
         memory = farm.Memory(given, program)

@@ -17,9 +17,10 @@ from holls.carried import CLONE
 from holls.say import complain
 
 try:
+    import fcntl
     import resource
 except ImportError:
-    resource = None  # Windows has none.
+    fcntl = resource = None  # Windows has neither.
 
 VARIABLE = "HOL_SERVE"
 """The environment variable that names the program."""
@@ -33,14 +34,18 @@ memory by the thousand for each command. It saves a twentieth of its instruction
 MEMORY_MB = 3000
 """So many it may have where that isn't said."""
 
-CHUNK_BYTES = 1 << 16
-"""So many bytes are read at a time at most."""
-MANY, REPLY_SECONDS, REST_SECONDS = 16, 2e-5, 0.01
+CHUNK_BYTES = 1 << 18
+"""So many bytes are read at a time at most, and so many the program can write before one is read, where the system has pipes that large."""
+MANY, REPLY_SECONDS, REST_SECONDS = 16, 2e-5, 0.02
 """Where so many replies are awaited, what comes is read a while later, together: so long for each of them, which is less than one takes, and so long
 at most. Else this process would be woken by each."""
+FEW, PATIENT_SECONDS = 3, 6e-5
+"""The same where nobody waits for one of them."""
 REPLY_BYTES = 1 << 28
 """A longer line is taken for no reply."""
 
+_SET_PIPE_SIZE = 1031
+"""Linux's F_SETPIPE_SZ, which Python has a name for since 3.10."""
 _BUILT = CLONE / "crates" / "hol_serve" / "out" / "hol_serve"
 _PROBES = (
     ("replace", {"theory": "", "at": 0, "text": ""}),
@@ -82,6 +87,7 @@ class Server:
         self._lines: "queue.SimpleQueue[Optional[bytes]]" = queue.SimpleQueue()
         self._complaint = b""
         self._sent = self._read_lines = 0
+        self.is_patient = False  # Whether nobody waits for a single reply.
         self._listener = threading.Thread(target=self._hear, daemon=True)
         self._listener.start()  # The reader joins it, which may be as soon as the reader begins.
         for work in (self._write, self._read):
@@ -138,8 +144,8 @@ class Server:
     def _data(self) -> bytes:
         """What has been written: where much is still to come, a while later."""
         awaited = self._sent - self._read_lines
-        if awaited >= MANY:
-            time.sleep(min(REST_SECONDS, awaited * REPLY_SECONDS))
+        if awaited >= (FEW if self.is_patient else MANY):
+            time.sleep(min(REST_SECONDS, awaited * (PATIENT_SECONDS if self.is_patient else REPLY_SECONDS)))
         return self.process.stdout.read1(CHUNK_BYTES)
 
     def _hear(self) -> None:
@@ -155,6 +161,7 @@ def _start(program: List[str]) -> "subprocess.Popen[bytes]":
         raise NoServer("the program %s can't be started: %s" % (program[0], error.strerror or error)) from None
     if program[0] != SHELL:  # Its words set a limit of their own.
         _limit(process.pid, memory())
+    _widen(process.stdout.fileno())
     return process
 
 
@@ -162,6 +169,14 @@ def environment() -> Dict[str, str]:
     """The environment that a program is started in."""
     name, words = ALLOCATOR
     return {name: words, **os.environ}
+
+
+def _widen(pipe: int) -> None:
+    """Has a pipe hold more, where the system can."""
+    try:
+        fcntl.fcntl(pipe, _SET_PIPE_SIZE, CHUNK_BYTES)
+    except (AttributeError, OSError, ValueError):
+        pass  # It holds what pipes hold.
 
 
 def memory() -> Optional[int]:

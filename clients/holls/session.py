@@ -59,6 +59,7 @@ class Session:
                  told: Callable[[], None], seconds: float, ahead: Optional[int] = None) -> None:
         """With `ahead` so many requests are sent ahead, however long they take."""
         self.theories: List[Theory] = []
+        self._unsettled: List[Theory] = []
         self._by_name: Dict[str, Theory] = {}
         self.failure: Optional[str] = None
         self.slow_seconds = SLOW_SECONDS
@@ -82,7 +83,7 @@ class Session:
 
     def want(self, theories: List[Theory]) -> None:
         """Takes the theories as they are to stand, in the order in which they are to be run."""
-        self.theories, self._by_name = theories, {theory.name: theory for theory in theories}
+        self.theories, self._by_name, self._unsettled = theories, {theory.name: theory for theory in theories}, theories
         self.failure, self._ends, self._rounds, self._dozes = None, 0, 0, False
         self._begin_edit()
         if self._pending:
@@ -163,6 +164,7 @@ class Session:
             if changes is None:
                 self.stop()
                 self._server, self._begun = Server(self._program, self._events), time.monotonic()
+                self._server.is_patient = self._ahead is not None
                 changes = self._standing.changes(self.theories, self._served)
         except NoServer as error:
             self.failure = str(error)
@@ -230,8 +232,9 @@ class Session:
             else:
                 self._hear_lines(event)
         if is_heard:
-            for theory in self.theories:
+            for theory in self._unsettled:
                 theory.settle()
+            self._unsettled = [theory for theory in self._unsettled if not theory.is_settled]
             self._told()
             self.pump()
 
