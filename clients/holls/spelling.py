@@ -169,9 +169,14 @@ def _spelled(quotation: str, table: Table, vocabulary: Vocabulary, is_defining: 
         return quotation
     word = "new_definition D" if is_defining else "e X"
     back = translated("%s `%s`" % (word, found), table, vocabulary)
-    if back.error is not None or _bare(back.text.split("`")[1], is_defining) != _bare(quotation, is_defining):
+    if back.error is not None or not _is_same(back.text.split("`")[1], quotation, is_defining):
         raise Unprintable("in notation this would be read otherwise: " + found)
     return found
+
+
+def _is_same(one: str, other: str, is_defining: bool) -> bool:
+    """Whether two plain quotations are the same, but for white space and parentheses."""
+    return one.split() == other.split() or _bare(one, is_defining) == _bare(other, is_defining)
 
 
 def _bare(quotation: str, is_defining: bool) -> str:
