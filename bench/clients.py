@@ -126,6 +126,11 @@ def goal(file):
 
 # The bridge
 
+def started(*words, **how):
+    """`holls` as an editor starts it."""
+    return subprocess.Popen([sys.executable, str(CLIENTS / "bin" / "holls"), *words], **how)
+
+
 def processor(process):
     """A process's own processor time."""
     fields = pathlib.Path("/proc/%d/stat" % process).read_text().rsplit(")", 1)[1].split()
@@ -136,7 +141,7 @@ class Typing:
     """The largest file in a bridge."""
 
     def __init__(self, program, file):
-        self.editor, self.version = Editor(program), 1
+        self.editor, self.version = Editor(program, start=started), 1
         self.editor.begin()
         self.uri, self.text, self.lines = (THEORIES / (file.name + ".hol")).as_uri(), file.lines.text, file.lines
         self.editor.open(self.uri, self.text)
@@ -302,7 +307,7 @@ def page(given):
     counts = {name: sum(len(file.cut.commands) for file in (*imports, found[name])) for name, imports in sizes.items()}
     name = min((name for name in counts if counts[name] >= MOST), key=lambda one: counts[one])
     process, address = browser.serve(given.program)
-    shown = browser.Browser()
+    shown = browser.Person()
     try:
         tab = shown.page(address)
         tab.until("!!window.page && !!window.page.active && window.page.manual")
@@ -310,7 +315,7 @@ def page(given):
         tab.value("window.page.keep = () => {}, localStorage.setItem('hol-serve', %s)" % json.dumps(json.dumps({"tabs": tabs, "active": name, "done": []})))
         took = [opened(tab, address, name) for _ in range(3)]
     finally:
-        shown.stop()
+        shown.leave()
         process.terminate()
         process.wait()
     row("the page: %s with its imports, %d commands" % (name, counts[name]), statistics.median(took), "s", 3, "tabs: %d" % len(tabs))

@@ -1,14 +1,16 @@
 """All tests of the clients, with a last line as the gate's: `python3 clients/tests [NAME..]`; `clients/tests/run` says more.
 
-The tests run side by side, in a few processes, since most of their time is waiting. One that comes to no end is told with the place where it waits, and
-tried once more behind all others; then it fails.
+The tests run side by side, in a few processes, since a part of their time is waiting. Those that share what takes long to make run in the same ones. One
+that comes to no end is told with the place where it waits, and tried once more behind all others; then it fails.
 """
 
 import collections
-import concurrent.futures
+import ctypes
 import dataclasses
 import faulthandler
 import io
+import multiprocessing
+import multiprocessing.connection
 import os
 import pathlib
 import resource
@@ -16,6 +18,7 @@ import signal
 import sys
 import time
 import unittest
+from typing import Optional
 
 HERE = pathlib.Path(__file__).resolve().parent
 AT_ONCE = 6
@@ -26,20 +29,33 @@ MOST_TOLD = 12
 MOST_SECONDS = 300
 """A test that takes longer is taken for one that never ends."""
 ENDED_SECONDS = 60
-"""What it then gets to end its servers, before its process is ended, and with it all tests that are under way."""
+"""What it then gets to end its servers, before its process is ended."""
 NO_END = "no end"
-FIRST = ("Sitting", "twenty_seconds", "OverTheLibrary", "Theories.test", "test_walk", "reads_back", "undo_each_other", "ask_nothing",
-         "test_examples", "test_python", "test_over_program", "Examples", "test_neovim", "hang", "left_out", "faults", "nonsense", "random_edits", "5000")
-"""Words of the names of tests that take long: they begin first."""
+SHARERS = 2
+"""In so many processes at most the tests run that share something, which each of these makes for itself."""
+FIRST = ("twenty_seconds", "Sitting", "OverTheLibrary", "undo_each_other", "reads_back", "recalled", "each_lesson", "from_an_empty_file", "every_quotation",
+         "test_pairs", "a_search", "Running", "stands_behind_all", "ninja", "test_walk", "Theories.test", "pelletier", "test_python", "constructors",
+         "test_package.", "tmux", "test_neovim", "test_vscode", "test_page.", "Proxies", "random_", "faults", "hang", "left_out", "nonsense", "5000")
+"""Words of the names of tests that take long, those that take longest first: so they begin."""
+SUBREAPER = 36
+"""What has Linux hand processes to this one whose own parents have ended, so that it is known what they took."""
 
 
-def names(suite):
-    """The names of a suite's tests."""
+@dataclasses.dataclass(frozen=True)
+class Test:
+    """A test, and what it shares with others, which takes long to make."""
+
+    name: str
+    shares: Optional[str]
+
+
+def tests(suite):
+    """The tests of a suite."""
     for test in suite:
         if isinstance(test, unittest.TestSuite):
-            yield from names(test)
+            yield from tests(test)
         else:
-            yield test.id()
+            yield Test(test.id(), getattr(test, "shares", None))
 
 
 class NeverEnds(BaseException):
@@ -68,8 +84,10 @@ class Outcome:
 
 def processor():
     """The processors' time that this process has had, and those that it started and that have ended."""
+    from tests import forked
+
     used = [resource.getrusage(whose) for whose in (resource.RUSAGE_SELF, resource.RUSAGE_CHILDREN)]
-    return sum(one.ru_utime + one.ru_stime for one in used)
+    return sum(one.ru_utime + one.ru_stime for one in used) + forked.spent()
 
 
 def run(name):
@@ -88,24 +106,98 @@ def run(name):
     return Outcome(name, state, written.getvalue(), time.monotonic() - begun, processor() - had)
 
 
-def outcomes(found):
-    """What came of each of these tests, as they end. Of those that were under way when a process was lost, nothing is told."""
-    with concurrent.futures.ProcessPoolExecutor(AT_ONCE) as pool:
-        for future in concurrent.futures.as_completed([pool.submit(run, name) for name in found]):
-            if not future.exception():
-                yield future.result()
+class Worker:
+    """A process that runs tests, one after the other. `shares` are what those that it has run share."""
+
+    made = multiprocessing.get_context("fork")
+
+    def __init__(self, others):
+        self.ours, theirs = self.made.Pipe()
+        self.process = self.made.Process(target=work, args=(theirs, [one.ours for one in (*others, self)]))
+        self.process.start()
+        theirs.close()
+        self.test, self.shares = None, set()
+
+    def begin(self, test):
+        """Has a test run, or ends where there is none."""
+        self.test = test
+        self.shares.add(test.shares if test else None)
+        self.ours.send(test and test.name)
+
+    def ended(self):
+        """What came of its test; nothing where the process was lost."""
+        try:
+            return self.ours.recv() if self.ours.poll() else None
+        except EOFError:
+            return None
 
 
-def dearest(outcomes):
+def work(ours, others):
+    """Runs tests as they are wanted."""
+    from tests import helpers
+
+    for one in others:
+        one.close()
+    try:
+        for name in iter(ours.recv, None):
+            ours.send(run(name))
+    except (EOFError, BrokenPipeError):
+        pass  # Nobody wants to know any more.
+    helpers.end()
+
+
+class Crew:
+    """The processes that run tests, and the tests that wait."""
+
+    def __init__(self, found):
+        self.waiting, self.workers = list(found), []
+
+    def outcomes(self):
+        """What came of each test, as they end. Of one that was under way when its process was lost, nothing is told."""
+        while len(self.workers) < AT_ONCE and self._has_work(Worker(self.workers)):
+            pass
+        while self.workers:
+            awaited = {one: worker for worker in self.workers for one in (worker.ours, worker.process.sentinel)}
+            ready = {id(awaited[one]): awaited[one] for one in multiprocessing.connection.wait(list(awaited))}
+            yield from filter(None, map(self._next, ready.values()))
+
+    def _next(self, worker):
+        """What came of a process's test; it gets the next one, or another process does in the place of one that was lost."""
+        outcome = worker.ended()
+        self.workers.remove(worker)
+        if outcome is None:
+            worker.process.join()
+        self._has_work(worker if outcome else Worker(self.workers))
+        return outcome
+
+    def _has_work(self, worker):
+        """Whether there is a test that a process should run, which gets it. Otherwise it ends."""
+        test = self._chosen(worker)
+        worker.begin(test)
+        if test is None:
+            worker.process.join()
+            return False
+        self.waiting.remove(test)
+        self.workers.append(worker)
+        return True
+
+    def _chosen(self, worker):
+        """The first test that shares something with those that a process has run, else the first that nothing is to be made for, or not too often."""
+        made = collections.Counter(one for other in self.workers for one in other.shares)
+        own = (test for test in self.waiting if test.shares and test.shares in worker.shares)
+        others = (test for test in self.waiting if test.shares is None or made[test.shares] < SHARERS)
+        return next(own, None) or next(others, None)
+
+
+def dearest(ended, seconds):
     """Words on what the tests took of the processors, and which took most of it."""
-    most = sorted(outcomes, key=lambda one: -one.processor)[:MOST_TOLD]
-    return "%.0f s of the processors, most of it %s" % (
-        sum(one.processor for one in outcomes), ", ".join("%s %.1f" % (".".join(one.name.split(".")[-2:]), one.processor) for one in most))
+    most = sorted(ended, key=lambda one: -one.processor)[:MOST_TOLD]
+    return "%.0f s of the processors, most of it %s" % (seconds, ", ".join("%s %.1f" % (".".join(one.name.split(".")[-2:]), one.processor) for one in most))
 
 
 def told(found):
-    """The same, and each is shown that failed or took long."""
-    for outcome in outcomes(found):
+    """What came of tests, and each is shown that failed or took long."""
+    for outcome in Crew(found).outcomes():
         if outcome.state in ("FAILED", NO_END) or outcome.seconds > SLOW_SECONDS:
             print("%s: %s after %.1f s" % (outcome.name, outcome.state, outcome.seconds), flush=True)
         if outcome.state in ("FAILED", NO_END):
@@ -113,20 +205,36 @@ def told(found):
         yield outcome
 
 
+def reap():
+    """Takes what has ended and nobody has waited for."""
+    try:
+        while os.waitpid(-1, os.WNOHANG)[0]:
+            pass
+    except ChildProcessError:
+        pass
+
+
 def main():
     os.chdir(str(HERE.parents[1]))
     sys.path.insert(0, str(HERE.parent))
-    found = list(names(unittest.defaultTestLoader.discover(str(HERE), top_level_dir=str(HERE.parent))))
-    found = [name for name in found if not sys.argv[1:] or any(word in name for word in sys.argv[1:])]
-    found.sort(key=lambda name: not any(word in name for word in FIRST))
+    ctypes.CDLL(None).prctl(SUBREAPER, 1, 0, 0, 0)
+    from tests import forked, helpers
+
+    found = list(tests(unittest.defaultTestLoader.discover(str(HERE), top_level_dir=str(HERE.parent))))
+    found = [test for test in found if not sys.argv[1:] or any(word in test.name for word in sys.argv[1:])]
+    found.sort(key=lambda test: next((at for at, word in enumerate(FIRST) if word in test.name), len(FIRST)))
+    forked.maker()  # One for all that run here.
     begun, ended = time.monotonic(), list(told(found))
+    seconds = time.monotonic() - begun
     states = {it.name: it.state for it in ended}
-    print("clients: %.0f s by the clock, %s" % (time.monotonic() - begun, dearest(ended)), flush=True)
-    again = [name for name in found if states.get(name, NO_END) == NO_END]
+    again = [test for test in found if states.get(test.name, NO_END) == NO_END]
     if again:
-        print("clients: tried once more, since they came to no end: %s" % " ".join(again), flush=True)
+        print("clients: tried once more, since they came to no end: %s" % " ".join(test.name for test in again), flush=True)
         states.update((it.name, it.state) for it in told(again))
-    count = collections.Counter(states.get(name, NO_END) for name in found)
+    helpers.end()
+    reap()
+    print("clients: %.0f s by the clock, %s" % (seconds, dearest(ended, processor())), flush=True)
+    count = collections.Counter(states.get(test.name, NO_END) for test in found)
     failed = count["FAILED"] + count[NO_END]
     print("clients: %d skipped, %d passed, %d failed" % (count["skipped"], count["passed"], failed))
     return 1 if failed or not found else 0

@@ -7,11 +7,12 @@ import pathlib
 import shutil
 import socket
 import subprocess
-import sys
 import tempfile
 import time
 
 from holls.websocket import WebSocket, new_key
+from tests import forked
+from tests.helpers import at_end
 
 CHROMIUM = shutil.which("chromium") or shutil.which("chromium-browser") or shutil.which("google-chrome")
 SECONDS = int(os.environ.get("HOLLS_TEST_SECONDS", "600"))
@@ -23,7 +24,7 @@ class Failed(AssertionError):
 
 
 class Browser:
-    """A browser with a profile of its own, which ends with it."""
+    """A browser, with what is kept in it until its end."""
 
     def __init__(self):
         self.folder = tempfile.TemporaryDirectory()
@@ -31,6 +32,9 @@ class Browser:
                  "--disable-background-networking", "--remote-debugging-port=0", "--user-data-dir=" + self.folder.name, "about:blank"]
         self.process = subprocess.Popen(words, stdout=subprocess.DEVNULL, stderr=subprocess.DEVNULL)
         self.port = int(self._port_file().read_text().split()[0])
+        asked = http.client.HTTPConnection("127.0.0.1", self.port, timeout=SECONDS)
+        asked.request("GET", "/json/version")
+        self.control = Page(self.port, json.loads(asked.getresponse().read())["webSocketDebuggerUrl"].split(str(self.port), 1)[1])
 
     def _port_file(self):
         file = pathlib.Path(self.folder.name) / "DevToolsActivePort"
@@ -41,31 +45,6 @@ class Browser:
             time.sleep(0.05)
         return file
 
-    def page(self, address, width=1200, height=800):
-        """Opens an address in a tab of its own."""
-        asked = http.client.HTTPConnection("127.0.0.1", self.port, timeout=SECONDS)
-        asked.request("PUT", "/json/new?about:blank")
-        target = json.loads(asked.getresponse().read())
-        return self._begun(target["webSocketDebuggerUrl"].split(str(self.port), 1)[1], address, width, height)
-
-    def apart(self, address, width=1200, height=800):
-        """Opens an address as another person's browser does: cookies and all that is kept are its own."""
-        asked = http.client.HTTPConnection("127.0.0.1", self.port, timeout=SECONDS)
-        asked.request("GET", "/json/version")
-        path = json.loads(asked.getresponse().read())["webSocketDebuggerUrl"].split(str(self.port), 1)[1]
-        self.control = Page(self.port, path)
-        context = self.control.call("Target.createBrowserContext")["browserContextId"]
-        target = self.control.call("Target.createTarget", url="about:blank", browserContextId=context)["targetId"]
-        return self._begun("/devtools/page/" + target, address, width, height)
-
-    def _begun(self, path, address, width, height):
-        page = Page(self.port, path)
-        page.call("Page.enable")
-        page.call("Runtime.enable")
-        page.call("Emulation.setDeviceMetricsOverride", width=width, height=height, deviceScaleFactor=1, mobile=width < 500)
-        page.go(address)
-        return page
-
     def stop(self):
         self.process.kill()
         self.process.wait()
@@ -75,6 +54,45 @@ class Browser:
                 return
             except OSError:
                 time.sleep(0.1)  # Its helpers are still ending.
+
+
+STARTED = []
+"""The browser of a process, with its number."""
+
+
+def of_process():
+    """The browser of this process: that takes longer to start than what most tests do in it."""
+    if not STARTED or STARTED[0][0] != os.getpid() or STARTED[0][1].process.poll() is not None:
+        STARTED[:] = [(os.getpid(), Browser())]
+        at_end(STARTED[0][1].stop)
+    return STARTED[0][1]
+
+
+class Person:
+    """Somebody who sits at a browser in which nothing is kept yet: cookies, and what pages keep, are nobody else's."""
+
+    def __init__(self):
+        self.browser = of_process()
+        self.control = self.browser.control
+        self.context = self.control.call("Target.createBrowserContext")["browserContextId"]
+
+    def page(self, address, width=1200, height=800):
+        """Opens an address in a tab of its own."""
+        target = self.control.call("Target.createTarget", url="about:blank", browserContextId=self.context)["targetId"]
+        page = Page(self.browser.port, "/devtools/page/" + target)
+        page.call("Page.enable")
+        page.call("Runtime.enable")
+        page.call("Emulation.setDeviceMetricsOverride", width=width, height=height, deviceScaleFactor=1, mobile=width < 500)
+        page.go(address)
+        return page
+
+    def take_downloads(self, folder):
+        """Has what pages give to be saved put into a folder."""
+        self.control.call("Browser.setDownloadBehavior", behavior="allow", downloadPath=str(folder), browserContextId=self.context)
+
+    def leave(self):
+        """Closes all tabs, and forgets what they kept."""
+        self.control.call("Target.disposeBrowserContext", browserContextId=self.context)
 
 
 class Page:
@@ -171,8 +189,6 @@ KEYS = {"Backspace": 8, "Enter": 13, "Escape": 27, "Tab": 9, "ArrowUp": 38, "Arr
 
 def serve(program, *words):
     """Starts `holls page` for a program; answers the process and the page's address."""
-    holls = pathlib.Path(__file__).resolve().parents[1] / "bin" / "holls"
-    command = [sys.executable, str(holls), "page", "--no-browser", "--port", "0", "--server", str(program), *words]
-    process = subprocess.Popen(command, stdout=subprocess.PIPE, env=dict(os.environ))
+    process = forked.Holls("page", "--no-browser", "--port", "0", "--server", program, *words, stdout=subprocess.PIPE)
     line = process.stdout.readline().decode()
     return process, line.split(" at ", 1)[1].split(" ", 1)[0]

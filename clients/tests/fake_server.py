@@ -13,12 +13,10 @@ twice (two replies), noise (standard error without end) or memory (the Nth and t
 that ends a process comes in the first process alone, which makes FILE. The log gets each request.
 """
 
-import argparse
 import json
 import os
 import re
 import sys
-import threading
 import time
 
 COMMAND = re.compile(r"\s*(\w+)\s*(.*?)\s*\Z", re.S)
@@ -219,11 +217,16 @@ class Slot:
         return self if is_same else Slot(self.text, self, before, earlier)
 
 
+def imports(slots):
+    """Those that import."""
+    return [slot for slot in slots if slot.text.startswith("import ")]
+
+
 class Documents:
     """Theories in order, each a list of commands; answers one request at a time. `ran` counts the commands that were run."""
 
     def __init__(self, served=EDITS):
-        self.served, self.theories, self.ran = set(served), [], 0
+        self.served, self.theories, self.ran, self.stood = set(served), [], 0, {}
 
     def answer(self, line):
         try:
@@ -263,30 +266,46 @@ class Documents:
         return do(slots)
 
     def edit(self, request, most, do):
-        return self.at(request, most, lambda _: self.made(lambda theories: do(dict(theories)[request["theory"]])))
+        def edited(theories):
+            at = [name for name, _ in theories].index(request["theory"])
+            theories[at] = request["theory"], list(theories[at][1])
+            do(theories[at][1])
+
+        return self.at(request, most, lambda _: self.made(edited))
 
     def made(self, do):
         """Makes an edit and runs what it affects, beside what stands: as a whole or not at all."""
-        theories = [(name, list(slots)) for name, slots in self.theories]
+        theories = list(self.theories)
         do(theories)
         try:
             self.theories = self.run(theories)
         except NoMemory:
             return {"error": 9, "ok": False, "text": "memory"}
+        before = self.stood
+        self.stood = {name: before[name] if name in before and before[name][0] is slots else (slots, imports(slots)) for name, slots in self.theories}
         return {"ok": True}
 
     def run(self, theories):
         """The theories with all commands run that read something else than before."""
         earlier, found = {}, []
         for name, slots in theories:
-            found.append((name, []))
-            state = EMPTY
-            for slot in slots:
-                now = slot.again(state, earlier)
-                self.ran += now is not slot and now.is_run
-                state = now.after
-                found[-1][1].append(now)
-            earlier[name] = state
+            slots = slots if self.is_as_it_stood(name, slots, earlier) else self.run_theory(slots, earlier)
+            earlier[name] = slots[-1].after if slots else EMPTY
+            found.append((name, slots))
+        return found
+
+    def is_as_it_stood(self, name, slots, earlier):
+        """Whether a theory has the commands that it had, and imports what it imported: nothing of it is run then."""
+        stood, importing = self.stood.get(name, (None, ()))
+        return stood is slots and all(slot.imports is slot.imported(earlier) for slot in importing)
+
+    def run_theory(self, slots, earlier):
+        state, found = EMPTY, []
+        for slot in slots:
+            now = slot.again(state, earlier)
+            self.ran += now is not slot and now.is_run
+            state = now.after
+            found.append(now)
         return found
 
     def insert(self, request):
@@ -335,25 +354,21 @@ def make_noise():
 
 
 def main():
-    words = argparse.ArgumentParser()
-    words.add_argument("--serve", default=",".join(EDITS))
-    words.add_argument("--fault", default=":0")
-    words.add_argument("--once", default="")
-    words.add_argument("--log", default="")
-    words.add_argument("--meet", default="")
-    given = words.parse_args()
-    MEETING.append(given.meet)
-    kind, number = given.fault.split(":")
-    documents = Documents(filter(None, given.serve.split(",")))
+    given = {"--serve": ",".join(EDITS), "--fault": ":0", "--once": "", "--log": "", "--meet": ""}
+    given.update(zip(sys.argv[1::2], sys.argv[2::2]))  # (argparse takes as long to load as all else.)
+    once, log_file = given["--once"], given["--log"]
+    MEETING.append(given["--meet"])
+    kind, number = given["--fault"].split(":")
+    documents = Documents(filter(None, given["--serve"].split(",")))
     for count, line in enumerate(iter(sys.stdin.buffer.readline, b""), 1):
-        if given.log:
-            with open(given.log, "ab") as log:
+        if log_file:
+            with open(log_file, "ab") as log:
                 log.write(line)
         reply = json.dumps(documents.answer(line.rstrip(b"\n")) if kind != "memory" or count not in (int(number), int(number) + 1)
                            else {"error": 9, "ok": False, "text": "memory"}, sort_keys=True, separators=(",", ":"), ensure_ascii=False)
-        is_due = kind and count == int(number) and not (given.once and os.path.exists(given.once))
-        if is_due and given.once:
-            open(given.once, "w").close()
+        is_due = kind and count == int(number) and not (once and os.path.exists(once))
+        if is_due and once:
+            open(once, "w").close()
         if is_due and kind == "end":
             sys.exit(3)
         if is_due and kind in ("hang", "late"):
@@ -367,6 +382,8 @@ def main():
         if is_due and kind == "twice":
             reply += "\n" + reply
         if is_due and kind == "noise":
+            import threading
+
             threading.Thread(target=make_noise, daemon=True).start()
         sys.stdout.write(reply + "\n")
         sys.stdout.flush()

@@ -1,5 +1,6 @@
 """What the tests share: the fake server, and the built one where there is one."""
 
+import atexit
 import os
 import pathlib
 import stat
@@ -24,6 +25,26 @@ def fake(folder, *words):
     program.write_text("#!/bin/sh\nexec %s\n" % quoted)
     program.chmod(program.stat().st_mode | stat.S_IXUSR)
     return str(program)
+
+
+ENDS = []
+"""What is to be done when a process has run its tests, each with the process's number."""
+
+
+def at_end(work):
+    """Has something done when this process has run its tests: what these share ends."""
+    ENDS.append((os.getpid(), work))
+
+
+def end():
+    """Does what is to be done at the end, what came last first."""
+    for number, work in ENDS[::-1]:
+        if number == os.getpid():
+            work()
+    ENDS.clear()
+
+
+atexit.register(end)
 
 
 def proofs(number):

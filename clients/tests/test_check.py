@@ -12,6 +12,7 @@ import unittest
 
 from holls import checking, graph, session
 from holls.files import File
+from tests import forked
 from tests.helpers import BUILT, CLIENTS, HOLLS, PYTHON, ROOT, SECONDS, fake, proofs
 
 
@@ -21,13 +22,13 @@ class Checking(unittest.TestCase):
         self.addCleanup(folder.cleanup)
         self.folder = pathlib.Path(folder.name)
 
-    def check(self, files, *words, server=(), holls=(str(HOLLS),)):
-        """Status, standard output and standard error over files of these contents."""
+    def check(self, files, *words, server=(), anew=()):
+        """Status, standard output and standard error over files of these contents; of a Python that is started anew with some words where these are given."""
         for name, content in files.items():
             (self.folder / name).write_bytes(content if isinstance(content, bytes) else content.encode())
-        program = fake(self.folder, *server)
-        done = subprocess.run(
-            [*PYTHON, *holls, "check", "--server", program, *words, *files], cwd=self.folder, capture_output=True, timeout=SECONDS)
+        words = ["check", "--server", fake(self.folder, *server), *words, *files]
+        done = (subprocess.run([*PYTHON, *anew, *words], cwd=self.folder, capture_output=True, timeout=SECONDS) if anew
+                else forked.run(*words, cwd=self.folder))
         self.assertNotIn(b"Traceback", done.stderr + done.stdout)
         return done.returncode, done.stdout.decode(), done.stderr.decode()
 
@@ -98,7 +99,7 @@ class Checking(unittest.TestCase):
         self.assertEqual(session.START_SECONDS, 10)
         hasty = "import sys; sys.path.insert(0, %r); from holls import __main__, session; session.START_SECONDS = 2; sys.exit(__main__.run())"
         begun = time.monotonic()
-        status, _, errors = self.check({"A.hol": proofs(1)}, "--seconds", "1", server=("--fault", "hang:1"), holls=("-c", hasty % str(CLIENTS)))
+        status, _, errors = self.check({"A.hol": proofs(1)}, "--seconds", "1", server=("--fault", "hang:1"), anew=("-c", hasty % str(CLIENTS)))
         self.assertEqual((status, errors), (2, "holls: hol_serve gave no answer within 2 seconds, and again when it was started anew\n"))
         self.assertLess(time.monotonic() - begun, 90)
 
@@ -202,16 +203,16 @@ class Checking(unittest.TestCase):
         (self.folder / "two" / "hol-project.json").write_text("{}")
         (self.folder / "two" / "B.hol").write_text("import A;;\n" + proofs(1).replace("N0", "M"))
         program = fake(self.folder)
-        done = subprocess.run([*PYTHON, str(HOLLS), "check", "--server", program, "."], cwd=self.folder, capture_output=True, timeout=SECONDS)
+        done = forked.run("check", "--server", program, ".", cwd=self.folder)
         self.assertEqual((done.returncode, done.stdout.decode().splitlines()), (0, [
             "./one/A.hol: 4 commands, 1 theorem, all accepted", "./two/deep/A.hol: 4 commands, 1 theorem, all accepted",
             "./two/B.hol: 5 commands, 1 theorem, all accepted", "in all: 3 files, 13 commands, 3 theorems, 0 errors"]))
-        done = subprocess.run([*PYTHON, str(HOLLS), "check", "--quiet", "--server", program, "."], cwd=self.folder, capture_output=True, timeout=SECONDS)
+        done = forked.run("check", "--quiet", "--server", program, ".", cwd=self.folder)
         self.assertEqual((done.returncode, done.stdout), (0, b""))
 
     def check_of(self, *paths):
         """Status and lines over paths in the folder."""
-        done = subprocess.run([*PYTHON, str(HOLLS), "check", "--server", fake(self.folder), *paths], cwd=self.folder, capture_output=True, timeout=SECONDS)
+        done = forked.run("check", "--server", fake(self.folder), *paths, cwd=self.folder)
         return done.returncode, [line for line in done.stdout.decode().splitlines() if not line.startswith("in all: ")]
 
     def put(self, files):
@@ -245,8 +246,7 @@ class Checking(unittest.TestCase):
         program, (ours, theirs), shown = fake(self.folder), pty.openpty(), []
         reader = threading.Thread(target=lambda: shown.extend(iter(lambda: _read(ours), b"")), daemon=True)
         reader.start()
-        words = [*PYTHON, str(HOLLS), "check", "--server", program, "A.hol"]
-        with subprocess.Popen(words, cwd=self.folder, stdout=subprocess.PIPE, stderr=theirs) as process:
+        with forked.Holls("check", "--server", program, "A.hol", cwd=self.folder, stdout=subprocess.PIPE, stderr=theirs) as process:
             output = process.stdout.read().decode()
         os.close(theirs)
         reader.join()
@@ -315,7 +315,7 @@ class Examples(unittest.TestCase):
         with tempfile.TemporaryDirectory() as folder:
             for name, other in ("AB", "BA"):
                 pathlib.Path(folder, name + ".hol").write_text("import %s;;\nnew_constant k `:A`;;\n" % other)
-            done = subprocess.run([*PYTHON, str(HOLLS), "check", "--server", str(BUILT), "."], cwd=folder, capture_output=True, timeout=SECONDS)
+            done = forked.run("check", "--server", str(BUILT), ".", cwd=folder)
         circle = "1:1: error: imports go in a circle here: A imports B imports A; take one of them out"
         self.assertEqual(sorted(done.stdout.decode().splitlines()[:-1]), [
             line for name in "AB" for line in ("./%s.hol: 2 commands, 0 theorems, 1 error" % name, "./%s.hol:%s" % (name, circle))])

@@ -16,8 +16,9 @@ from holls.lsp.bridge import Bridge, Limits, Probed, Program
 from holls.session import AHEAD, WINDOW, Session
 from holls.sweep import Sweep
 from holls.theory import Theory
+from tests import forked
 from tests.fake_server import EDITS, Documents
-from tests.helpers import CLIENTS, HOLLS, PYTHON, SECONDS, fake, proofs
+from tests.helpers import CLIENTS, PYTHON, SECONDS, fake, proofs
 from tests.test_notation import NUMBERS, loaded
 
 SERVED = frozenset(EDITS)
@@ -176,8 +177,7 @@ class Together(OverPlayed):
             path.mkdir()
             for name, others in imports.items():
                 (path / (name + ".hol")).write_text("".join("import %s;;\n" % other for other in others) + "g %s `x = x`;;\ne REFL_TAC;;\nqed;;\n" % name)
-            words = [*PYTHON, str(HOLLS), "check", "--jobs", "3", "--server", fake(folder, "--log", log), str(path)]
-            subprocess.run(words, stdout=subprocess.DEVNULL, timeout=SECONDS, check=True)
+            self.assertEqual(forked.run("check", "--jobs", "3", "--server", fake(folder, "--log", log), path).returncode, 0)
             asked = [json.loads(line) for line in log.read_text().splitlines()]
         commands = sorted((name, at) for name, others in imports.items() for at in range(len(others) + 3))
         self.assertEqual(sorted(request["name"] for request in asked if request["op"] == "new_theory"), sorted(imports))

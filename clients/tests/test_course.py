@@ -6,8 +6,6 @@ import json
 import os
 import pathlib
 import re
-import subprocess
-import sys
 import tempfile
 import unittest
 
@@ -17,7 +15,8 @@ from holls.course.exercises import BadExercise, asked, exercises, given_up
 from holls.course.judging import Task, judged
 from holls.course.layout import BadCourse, Course, Given
 from holls.course.verdicts import Status, Verdict
-from tests.helpers import BUILT, HOLLS, ROOT, SECONDS
+from tests import forked
+from tests.helpers import BUILT, ROOT
 
 TEACHER = """new_definition TWICE `twice (f:A->A) x = f (f x)`;;
 g SAME `!x:A. x = x`;;
@@ -238,7 +237,7 @@ class Grade(Kept):
     """The command."""
 
     def grade(self, *words):
-        ran = subprocess.run([sys.executable, str(HOLLS), "grade", str(self.folder), "--server", str(BUILT), *words], capture_output=True, timeout=SECONDS)
+        ran = forked.run("grade", self.folder, "--server", BUILT, *words)
         self.assertNotIn(b"Traceback", ran.stderr + ran.stdout)
         return ran.returncode, ran.stdout.decode(), ran.stderr.decode()
 
@@ -283,7 +282,7 @@ class Grade(Kept):
         slow.chmod(0o755)
         for seconds in ("4", "20", "80"):  # On a machine that does much else a judge may take long to start its program.
             words = ["grade", str(self.folder), "--server", str(slow), "--work", str(self.folder), "--file-seconds", seconds]
-            ran = subprocess.run([sys.executable, str(HOLLS), *words], capture_output=True, timeout=SECONDS)
+            ran = forked.run(*words)
             if numbers.exists():
                 break
         self.assertEqual(ran.returncode, 2)

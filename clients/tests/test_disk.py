@@ -3,12 +3,12 @@
 import json
 import os
 import pathlib
-import subprocess
 import tempfile
 import unittest
 
 from holls import disk, projects, say
-from tests.helpers import HOLLS, PYTHON, SECONDS, fake, proofs
+from tests import forked
+from tests.helpers import fake, proofs
 from tests.test_lsp import Editor
 
 
@@ -23,8 +23,7 @@ class Folders(unittest.TestCase):
         self.program = fake(self.room)
 
     def holls(self, *words):
-        done = subprocess.run([*PYTHON, str(HOLLS), *map(str, words), "--server", self.program], stdout=subprocess.PIPE, stderr=subprocess.PIPE,
-                              cwd=str(self.folder), timeout=SECONDS)
+        done = forked.run(*words, "--server", self.program, cwd=self.folder)
         return done.returncode, done.stdout.decode(), done.stderr.decode()
 
     def fill(self):

@@ -3,14 +3,14 @@
 import contextlib
 import io
 import pathlib
-import subprocess
 import tempfile
 import unittest
 from unittest import mock
 
 from holls.exchange import exporting, hol_light, ocaml
 from holls.files import File
-from tests.helpers import HOLLS, PYTHON, SECONDS
+from tests import forked
+
 
 SMALL = """(* A comment. *)
 deftac BOTH REPEAT GEN_TAC THEN TRY CONJ_TAC;;
@@ -71,8 +71,7 @@ def exported(text, *words):
     with tempfile.TemporaryDirectory() as folder:
         path = pathlib.Path(folder, "small.hol")
         path.write_text(text)
-        done = subprocess.run([*PYTHON, HOLLS, "export", "--hol-light", str(path), *words], stdout=subprocess.PIPE, stderr=subprocess.PIPE,
-                              universal_newlines=True, timeout=SECONDS, check=False)
+        done = forked.run("export", "--hol-light", path, *words, universal_newlines=True)
     return done.returncode, done.stdout, done.stderr
 
 

@@ -15,6 +15,7 @@ from contextlib import redirect_stdout
 from unittest.mock import patch
 
 from holls import check, files, sent
+from tests import forked
 from tests.helpers import BUILT, HOLLS, PYTHON, ROOT, SECONDS, fake, proofs
 
 
@@ -34,9 +35,7 @@ class Farm(unittest.TestCase):
 
     def check(self, *words, program=None, environment=None, files=("a folder",)):
         """Status, standard output and standard error."""
-        done = subprocess.run(
-            [*PYTHON, str(HOLLS), "check", "--server", program or self.program, *words, *files], cwd=self.folder, capture_output=True,
-            timeout=SECONDS, env=dict(os.environ, **(environment or {})))
+        done = forked.run("check", "--server", program or self.program, *words, *files, cwd=self.folder, env=dict(os.environ, **(environment or {})))
         self.assertNotIn(b"Traceback", done.stderr + done.stdout)
         return done.returncode, done.stdout.decode(), done.stderr.decode()
 

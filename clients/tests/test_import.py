@@ -1,7 +1,6 @@
 """Theorems from a recorded run of HOL Light: reading what was recorded, its terms and theorems here, and proofs over the program."""
 
 import pathlib
-import subprocess
 import tempfile
 import unittest
 
@@ -13,7 +12,8 @@ from holls.checking import Unit
 from holls.prover import reading, typed
 from holls.prover.scope import Scope
 from holls.prover.writing import Quoter
-from tests.helpers import BUILT, HOLLS, PYTHON, SECONDS
+from tests import forked
+from tests.helpers import BUILT
 
 BASE = """g BOTH `!p q. p ==> q ==> p /\\ q`;;
 e REPEAT STRIP_TAC THEN FIRST_ASSUM ACCEPT_TAC;;
@@ -349,15 +349,12 @@ class OverTheProgram(unittest.TestCase):
             room = pathlib.Path(folder)
             (room / "base.hol").write_text(BASE)
             (room / "run.rec").write_text("\n".join(swapped().lines) + "\n")
-            done = subprocess.run([*PYTHON, HOLLS, "import", "run.rec", "--over", "base.hol", "--names", "SWAPPED"], cwd=folder, timeout=SECONDS,
-                                  stdout=subprocess.PIPE, stderr=subprocess.PIPE, universal_newlines=True, check=False)
+            done = forked.run("import", "run.rec", "--over", "base.hol", "--names", "SWAPPED", cwd=folder, universal_newlines=True)
             self.assertEqual((done.returncode, done.stderr), (0, ""))
             self.assertIn("1 theorems came over, 0 are missing", done.stdout)
-            checked = subprocess.run([*PYTHON, HOLLS, "check", "from_test.hol"], cwd=folder, timeout=SECONDS, stdout=subprocess.PIPE,
-                                     stderr=subprocess.PIPE, universal_newlines=True, check=False)
+            checked = forked.run("check", "from_test.hol", cwd=folder, universal_newlines=True)
             self.assertEqual(checked.returncode, 0, checked.stdout + checked.stderr)
-            done = subprocess.run([*PYTHON, HOLLS, "import", "nowhere.rec", "--over", "base.hol"], cwd=folder, timeout=SECONDS,
-                                  stdout=subprocess.PIPE, stderr=subprocess.PIPE, universal_newlines=True, check=False)
+            done = forked.run("import", "nowhere.rec", "--over", "base.hol", cwd=folder)
             self.assertEqual(done.returncode, 2)
 
 

@@ -12,17 +12,16 @@ import time
 import unittest
 
 from holls.lsp import wire
+from tests import forked
 from tests.fake_server import Documents
-from tests.helpers import HOLLS, PYTHON, SECONDS, fake, proofs
+from tests.helpers import SECONDS, fake, proofs
 
 
 class Editor:
     """An editor that speaks to a bridge: its messages, and what was published last."""
 
-    def __init__(self, program, *words):
-        self.process = subprocess.Popen(
-            [*PYTHON, str(HOLLS), "lsp", "--server", program, *words], stdin=subprocess.PIPE, stdout=subprocess.PIPE,
-            stderr=subprocess.PIPE)
+    def __init__(self, program, *words, start=forked.Holls):
+        self.process = start("lsp", "--server", program, *words, stdin=subprocess.PIPE, stdout=subprocess.PIPE, stderr=subprocess.PIPE)
         self.messages, self.numbers = queue.Queue(), 0
         self.published, self.versions, self.shown, self.progress, self.unknown = {}, {}, [], [], {}
         self.ever_said, self.ever_unknown, self.searched = [], [], []

@@ -9,14 +9,13 @@ import re
 import shutil
 import struct
 import subprocess
-import sys
 import tempfile
 import termios
 import threading
 import time
 import unittest
 
-from tests import browser
+from tests import browser, forked
 from tests.helpers import BUILT, CLIENTS, HOLLS, PYTHON, SECONDS
 from tests.new_theory import STEPS, THEOREMS
 from tests.test_page_server import Served
@@ -193,13 +192,12 @@ class Writing(unittest.TestCase):
         with tempfile.TemporaryDirectory() as name:
             path = pathlib.Path(name, "Sums.hol")
             path.write_text(text)
-            holls = [*PYTHON, str(HOLLS)]
-            plain = subprocess.run([*holls, "expand", str(path)], stdout=subprocess.PIPE, check=True).stdout.decode()
+            plain = forked.run("expand", path).stdout.decode()
             self.assertNotIn("\n" + "infixl", plain)
             self.assertIn("g SMALL `!x. IN x (UNION", plain)
             for written in (text, plain):
                 path.write_text(written)
-                done = subprocess.run([*holls, "check", "--axioms", "--json", "--alone", "--server", str(BUILT), str(path)], stdout=subprocess.PIPE)
+                done = forked.run("check", "--axioms", "--json", "--alone", "--server", BUILT, path)
                 made = {one["theorem"] for one in map(json.loads, done.stdout.splitlines()) if "theorem" in one}
                 self.assertEqual((done.returncode, made & set(THEOREMS)), (0, set(THEOREMS)), done.stdout)
 
@@ -217,10 +215,12 @@ class InNeovim(Writing):
 @unittest.skipUnless(BUILT.is_file(), "hol_serve isn't built")
 @unittest.skipUnless(browser.CHROMIUM, "Chromium isn't installed")
 class InThePage(Writing, Served):
+    shares = "a browser"
+
     def test_a_theory_is_written_from_an_empty_file(self):
         self.serve(BUILT)
-        shown = browser.Browser()
-        self.addCleanup(shown.stop)
+        shown = browser.Person()
+        self.addCleanup(shown.leave)
         page = shown.page(self.address + "?seconds=600")
         self.write(Chromium(page))
         self.assertEqual(page.complaints, [])

@@ -13,7 +13,8 @@ import unittest
 import xml.dom.minidom
 import zipfile
 
-from tests.helpers import CLIENTS, HOLLS, PYTHON, ROOT, SECONDS, fake, proofs
+from tests import forked
+from tests.helpers import CLIENTS, PYTHON, ROOT, SECONDS, fake, proofs
 
 
 def released():
@@ -109,7 +110,7 @@ class Recipes(unittest.TestCase):
     def status(self, words):
         """What these words end with, behind `holls`."""
         environment = {"HOME": str(self.folder), "PATH": "/usr/bin:/bin", "HOL_SERVE": fake(self.folder)}
-        ran = subprocess.run([*PYTHON, str(HOLLS), *words], cwd=str(self.folder), capture_output=True, timeout=SECONDS, env=environment)
+        ran = forked.run(*words, cwd=self.folder, env=environment)
         self.assertNotIn(b"Traceback", ran.stderr)
         return ran.returncode
 

@@ -2,15 +2,13 @@
 
 import base64
 import json
-import pathlib
 import random
-import subprocess
 import sys
 import unittest
 import zlib
 
-from tests import browser
-from tests.helpers import BUILT, CLIENTS, PYTHON, ROOT, fake, proofs
+from tests import browser, forked
+from tests.helpers import BUILT, ROOT, fake, proofs
 from tests.lesson_answers import ANSWERS
 from tests.test_page_server import Served
 
@@ -22,10 +20,12 @@ THEORIES = EXAMPLES / "theories"
 class InBrowser(Served):
     """A page in the browser, over the fake server or the program."""
 
+    shares = "a browser"
+
     def setUp(self):
         super().setUp()
-        self.browser = browser.Browser()
-        self.addCleanup(self.browser.stop)
+        self.browser = browser.Person()
+        self.addCleanup(self.browser.leave)
 
     def open(self, more="", **size):
         self.page = self.browser.page(self.address + more, **size)
@@ -156,7 +156,7 @@ class Editing(InBrowser):
         shown.until("window.page.active.name === 'Kept'")
         self.write(content)
         self.settled()
-        shown.call("Browser.setDownloadBehavior", behavior="allow", downloadPath=str(self.room))
+        self.browser.take_downloads(self.room)
         shown.key("s", "KeyS", 2)
         saved = self.room / "Kept.hol"
         shown.until("new Promise((done) => setTimeout(() => done(true), 500))")
@@ -181,8 +181,8 @@ class Editing(InBrowser):
         other.until("!document.getElementById('banner').hidden && window.page.isResting")
         other.value("window.page.editor.insert('lost')")
         self.assertEqual(shown.value("JSON.parse(localStorage.getItem('hol-serve')).tabs.some(({ text }) => text.includes('lost'))"), False)
-        fresh = browser.Browser()
-        self.addCleanup(fresh.stop)
+        fresh = browser.Person()
+        self.addCleanup(fresh.leave)
         self.page = fresh.page(link)
         self.page.until("window.page.active && window.page.active.name === 'Kept'")
         self.assertEqual(self.page.value("document.getElementById('text').value"), content)
@@ -197,8 +197,8 @@ class Editing(InBrowser):
         shown.click("#link")
         link = shown.until("window.page.link")
         self.assertEqual(link.count("theory="), 3)
-        fresh = browser.Browser()
-        self.addCleanup(fresh.stop)
+        fresh = browser.Person()
+        self.addCleanup(fresh.leave)
         self.page = fresh.page(link)
         self.page.until("window.page.active && window.page.active.name === 'Theory3'")
         self.assertEqual(self.page.value("window.page.theories.map(({ name }) => name)")[-3:], ["Theory1", "Theory2", "Theory3"])
@@ -271,8 +271,7 @@ class Editing(InBrowser):
         self.settled()
         self.assertEqual([shown.value(FOUND), self.errors(), self.marks()], found)
         (self.room / "T.hol").write_text(texts[-1])
-        command = [*PYTHON, str(CLIENTS / "bin" / "holls"), "check", "--json", "--server", str(self.room / "server"), str(self.room / "T.hol")]
-        done = subprocess.run(command, stdout=subprocess.PIPE, timeout=browser.SECONDS)
+        done = forked.run("check", "--json", "--server", self.room / "server", self.room / "T.hol")
         said = [json.loads(line) for line in done.stdout.splitlines()]
         wanted = [[one["line"], one["column"], one["end_line"], one["end_column"], one["text"]] for one in said if "text" in one]
         files = [one for one in wanted if "there is no file" not in one[4]] + [one for one in found[0] if "there is no theory" in one[4]]

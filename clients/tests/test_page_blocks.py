@@ -20,8 +20,9 @@ from typing import Dict, List, NamedTuple, Tuple
 from holls.__main__ import KINDS
 from holls.course import layout
 from holls.surface import declarations
+from tests import forked
 from tests.grammar import Grammar
-from tests.helpers import BUILT, HOLLS, PYTHON, ROOT, SECONDS
+from tests.helpers import BUILT, ROOT, SECONDS
 from tests.test_blocks import FENCE, PAGES
 
 BLOCK = re.compile(r"^```(\w*[^\n]*)\n(.*?)^```$|(?<=\n\n)((?: {4,}[^\n]*\n|\n(?= {4}))+)", re.M | re.S)
@@ -133,8 +134,7 @@ def run(words, folder, **given):
     for name in ("clients", "examples", "theories"):
         if not (folder / name).exists():
             os.symlink(ROOT / name, folder / name)
-    done = subprocess.run([*PYTHON, str(HOLLS), *words], cwd=str(folder), stdout=subprocess.PIPE, stderr=subprocess.PIPE, timeout=SECONDS,
-                          env=dict(os.environ, HOL_SERVE=str(BUILT)), **given)
+    done = forked.run(*words, cwd=folder, env=dict(os.environ, HOL_SERVE=str(BUILT)), **given)
     return done.returncode, done.stdout.decode()
 
 

@@ -1,9 +1,9 @@
 """Finding proofs: terms with types, propositional search against truth tables, and over hol_serve proofs of stored goals, which it accepts."""
 
+import functools
 import pathlib
 import random
 import re
-import subprocess
 import tempfile
 import time
 import unittest
@@ -15,13 +15,15 @@ from holls.prover import typed, writing
 from holls.prover.asking import THEORY, Asker
 from holls.prover.finder import Finder
 from holls.prover.scripts import Step
-from tests.helpers import BUILT, CLIENTS, HOLLS, PYTHON, ROOT, SECONDS, fake
+from tests import forked
+from tests.helpers import BUILT, CLIENTS, ROOT, SECONDS, fake
 
 GOALS = CLIENTS / "tests" / "goals"
 THEORIES = ("connectives", "maps", "pair_type", "group_axioms")
-SEARCH_SECONDS = 10.0
-THEORY_SECONDS = 2.0
-"""So long a theorem of examples/theories is searched, by the processor's time: as many are found as in the five seconds that a user has."""
+SEARCH_SECONDS = 3.0
+"""So long a goal is searched, by the processor's time: what else the machine does changes nothing of what is found."""
+THEORY_SECONDS = 1.0
+"""So long one of the theorems of examples/theories, of which not all are found: a user has five seconds for each."""
 
 
 def stored(name):
@@ -30,8 +32,9 @@ def stored(name):
     return [tuple(line.split(" ", 1)) for line in lines if not line.startswith("#")]
 
 
+@functools.lru_cache(len(THEORIES))
 def theory(name):
-    """A file of examples/theories."""
+    """A file of examples/theories, which no test changes."""
     path = ROOT / "examples" / "theories" / (name + ".hol")
     return files.read(str(path), path.read_bytes())
 
@@ -201,8 +204,7 @@ class CommandLine(unittest.TestCase):
         with tempfile.TemporaryDirectory() as folder:
             path = pathlib.Path(folder) / "A.hol"
             path.write_text(text)
-            given = [*PYTHON, str(HOLLS), "prove", "%s:%s" % (path, place), *words, "--server", server or fake(folder)]
-            done = subprocess.run(given, capture_output=True, timeout=SECONDS, text=True)
+            done = forked.run("prove", "%s:%s" % (path, place), *words, "--server", server or fake(folder), text=True)
         return done.returncode, done.stdout + done.stderr
 
     def test_steps_are_written(self):
@@ -264,9 +266,9 @@ def proved(asker, known, text, seconds):
     asker.copy(["g GOAL `%s`" % text])
     goals = asker.report(0)
     assert isinstance(goals, Goals), (text, goals)
-    begun = time.monotonic()
+    begun = clock.now()
     found = Finder(asker, known, goals, text, begun + seconds).find(None)
-    took = time.monotonic() - begun
+    took = clock.now() - begun
     asker.forget()
     return found, took
 
@@ -276,6 +278,8 @@ class OverTheProgram(unittest.TestCase):
     def setUp(self):
         self.asker = Asker(server.find(str(BUILT)), SECONDS)
         self.addCleanup(self.asker.stop)
+        clock.use(time.process_time)
+        self.addCleanup(clock.use, time.monotonic)
 
     def accepted(self, text, *imports):
         """The program accepts a file."""
@@ -284,8 +288,7 @@ class OverTheProgram(unittest.TestCase):
                 (pathlib.Path(folder) / (name + ".hol")).write_text(theory(name).lines.text)
             path = pathlib.Path(folder) / "FOUND.hol"
             path.write_text(text)
-            words = [*PYTHON, str(HOLLS), "check", "--server", str(BUILT), str(path)]
-            done = subprocess.run(words, capture_output=True, timeout=SECONDS)
+            done = forked.run("check", "--server", BUILT, path)
         self.assertEqual(done.returncode, 0, done.stdout.decode() + done.stderr.decode())
 
     def find_all(self, name, least):
@@ -314,7 +317,7 @@ class OverTheProgram(unittest.TestCase):
         self.asker.copy(["g GOAL `(p /\\ q ==> q /\\ p) /\\ (r ==> r)`", "e CONJ_TAC"])
         goals, closing = self.asker.report(1), "CONJ_TAC THEN FIRST_ASSUM ACCEPT_TAC"
         long = ["e REPEAT GEN_TAC THEN STRIP_TAC", "e ASSUME_TAC (ASSUME `p:bool`) THEN " + closing]
-        self.assertEqual(trying.fewer(self.asker, long, goals, time.monotonic() + SECONDS), ["e STRIP_TAC", "e " + closing])
+        self.assertEqual(trying.fewer(self.asker, long, goals, clock.now() + SECONDS), ["e STRIP_TAC", "e " + closing])
         self.assertTrue(trying.check(self.asker, ["e STRIP_TAC THEN " + closing], goals))
         self.assertFalse(trying.check(self.asker, ["e STRIP_TAC THEN " + closing, "e DISCH_TAC"], goals))
         self.assertEqual(self.asker.count, 2)
@@ -403,11 +406,10 @@ class NamedFunctions(unittest.TestCase):
         with tempfile.TemporaryDirectory() as folder:
             path = pathlib.Path(folder) / "A.hol"
             path.write_text("deftac SPLIT_UP EQ_TAC THEN STRIP_TAC;;\ng A `((?x:A. P x) /\\ r) <=> (?x:A. P x /\\ r)`;;\n")
-            done = subprocess.run([*PYTHON, str(HOLLS), "prove", "%s:2" % path, "--server", str(BUILT)], capture_output=True, timeout=SECONDS, text=True)
+            done = forked.run("prove", "%s:2" % path, "--server", BUILT, text=True)
             self.assertTrue(done.stdout.startswith("e SPLIT_UP;;\n"), done)
             path.write_text(path.read_text() + done.stdout + "qed;;\n")
-            words = [*PYTHON, str(HOLLS), "check", "--server", str(BUILT), str(path)]
-            self.assertEqual(subprocess.run(words, capture_output=True, timeout=SECONDS).returncode, 0)
+            self.assertEqual(forked.run("check", "--server", BUILT, path).returncode, 0)
 
 
 @unittest.skipUnless(BUILT.is_file(), "hol_serve isn't built")

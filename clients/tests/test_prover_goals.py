@@ -108,6 +108,8 @@ class Models(unittest.TestCase):
 
 @unittest.skipUnless(BUILT.exists(), "hol_serve isn't built")
 class OverTheLibrary(unittest.TestCase):
+    shares = "the library in a program"
+
     def setUp(self):
         clock.use(prover_goals.spent)
         self.addCleanup(clock.use, time.monotonic)

@@ -19,8 +19,8 @@ from holls.prover.finder import Finder
 from holls.prover.premises import Premises
 from holls.prover.shown import Shown
 from holls.prover.warm import Request, Warm
-from tests import prover_goals
-from tests.helpers import BUILT, HOLLS, PYTHON, ROOT, SECONDS
+from tests import forked, prover_goals
+from tests.helpers import BUILT, ROOT, SECONDS
 from tests.test_lsp import Editor
 
 
@@ -43,6 +43,8 @@ def known():
 
 
 class Theorems(unittest.TestCase):
+    shares = "the library in a program"
+
     def setUp(self):
         self.known = known()
         self.scope = self.known.scope
@@ -116,6 +118,8 @@ class Theorems(unittest.TestCase):
 
 @unittest.skipUnless(BUILT.exists(), "hol_serve isn't built")
 class OverTheLibrary(unittest.TestCase):
+    shares = "the library in a program"
+
     def setUp(self):
         clock.use(prover_goals.spent)
         self.addCleanup(clock.use, time.monotonic)
@@ -233,8 +237,7 @@ class Commands(unittest.TestCase):
 
     def prove(self, place, *words):
         """The status and output of `holls prove`."""
-        given = [*PYTHON, str(HOLLS), "prove", "%s:%s" % (self.folder / "mine.hol", place), "--server", str(BUILT), "--seconds", "30", *words]
-        done = subprocess.run(given, capture_output=True, timeout=SECONDS, text=True, env=self.environment)
+        done = forked.run("prove", "%s:%s" % (self.folder / "mine.hol", place), "--server", BUILT, "--seconds", "30", *words, text=True, env=self.environment)
         return done.returncode, done.stdout + done.stderr
 
     def test_an_import_is_offered_with_steps(self):
@@ -243,7 +246,7 @@ class Commands(unittest.TestCase):
         self.assertEqual((status, found["imports"]), (0, ["linear"]))
         text = "import arithmetic;;\nimport linear;;\ng A `le m n ==> lt (sub m n) (add (mult k k) _1)`;;\n%s;;\nqed;;\n" % ";;\n".join(found["steps"])
         (self.folder / "mine.hol").write_text(text)
-        done = subprocess.run([*PYTHON, str(HOLLS), "check", str(self.folder / "mine.hol"), "--server", str(BUILT)], capture_output=True, text=True)
+        done = forked.run("check", self.folder / "mine.hol", "--server", BUILT, text=True)
         self.assertEqual(done.returncode, 0, done.stdout)
 
     def test_no_import_where_none_is_needed(self):
@@ -270,18 +273,18 @@ class Commands(unittest.TestCase):
         self.assertEqual(lengths, sorted(lengths))
         proofs = "".join("g B%d `add m n = add n m`;;\n%s;;\nqed;;\n" % (number, ";;\n".join(steps)) for number, steps in enumerate(every))
         (self.folder / "mine.hol").write_text("import arithmetic;;\n" + proofs)
-        done = subprocess.run([*PYTHON, str(HOLLS), "check", str(self.folder / "mine.hol"), "--server", str(BUILT)], capture_output=True, text=True)
+        done = forked.run("check", self.folder / "mine.hol", "--server", BUILT, text=True)
         self.assertEqual(done.returncode, 0, done.stdout)
 
     def test_a_server_that_is_kept(self):
-        given = [*PYTHON, str(HOLLS), "prove", "--serve", str(self.folder), "--server", str(BUILT)]
-        kept = subprocess.Popen(given, stdin=subprocess.PIPE, stdout=subprocess.PIPE, text=True, env=self.environment)
+        given = ["prove", "--serve", self.folder, "--server", BUILT]
+        kept = forked.Holls(*given, stdin=subprocess.PIPE, stdout=subprocess.PIPE, text=True, env=self.environment)
         try:
             self.assertEqual(kept.stdout.readline(), "holls: ready\n")
             first, second = self.prove(4, "--json"), self.prove(4, "--json")
             self.assertEqual((first, second[0]), (second, 0))
             self.assertEqual(self.prove(1)[0], 2)
-            again = subprocess.run(given, capture_output=True, text=True, env=self.environment, stdin=subprocess.DEVNULL, timeout=SECONDS)
+            again = forked.run(*given, env=self.environment)
             self.assertEqual(again.returncode, 2)
         finally:
             kept.communicate()
@@ -304,8 +307,7 @@ class Commands(unittest.TestCase):
             action = next(one for one in editor.ask("textDocument/codeAction", given) if one["title"] == "Find a proof")
             steps = editor.ask("codeAction/resolve", action)["edit"]["changes"][path.as_uri()][0]["newText"]
         program.write_text("#!/bin/sh\nexit 1\n")  # So no other one can be begun.
-        words = [*PYTHON, str(HOLLS), "prove", "%s:4" % path, "--server", str(program)]
-        done = subprocess.run(words, capture_output=True, timeout=SECONDS, text=True, env=self.environment)
+        done = forked.run("prove", "%s:4" % path, "--server", program, text=True, env=self.environment)
         self.assertEqual((done.returncode, done.stdout.strip()), (0, steps.strip()), done.stderr)
         self.assertEqual(editor.end(), 0)
         self.assertEqual([one.name for one in (self.folder / "holls").iterdir()], [])

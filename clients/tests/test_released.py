@@ -13,7 +13,8 @@ import unittest
 from unittest import mock
 
 from holls import released, server
-from tests.helpers import HOLLS, PYTHON, ROOT, SECONDS, proofs
+from tests import forked
+from tests.helpers import ROOT, SECONDS, proofs
 
 SCRIPT = b"#!/bin/sh\necho released\n"
 REPLIES = ['{"made":["thm REFL1 |- x = x"],"ok":true}', '{"items":[],"ok":true}']
@@ -122,7 +123,7 @@ class Release(unittest.TestCase):
             self.assertEqual(ran.stdout.decode().splitlines()[-2:], REPLIES)
             file = pathlib.Path(name) / "A.hol"
             file.write_text(proofs(2))
-            ran = subprocess.run([*PYTHON, str(HOLLS), "check", "--server", program, str(file)], capture_output=True, timeout=SECONDS)
+            ran = forked.run("check", "--server", program, file)
             self.assertEqual((ran.returncode, ran.stderr), (0, b""))
 
 

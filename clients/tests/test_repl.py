@@ -19,6 +19,7 @@ from holls.repl import is_whole
 from holls.repl_completion import Completer
 from holls.repl_session import Session, Wrong
 from holls.repl_show import Show
+from tests import forked
 from tests.helpers import BUILT, HOLLS, PYTHON, ROOT, SECONDS, fake
 
 PATIENT = 120.0
@@ -201,13 +202,13 @@ class AsAProgram(unittest.TestCase):
         self.environment = dict(os.environ, XDG_STATE_HOME=str(self.folder / "state"), TERM="xterm", HOME=str(self.folder))
 
     def test_lines_from_a_pipe_and_the_status(self):
-        words = [*PYTHON, str(HOLLS), "repl", "--server", fake(self.folder)]
+        program = fake(self.folder)
         for text, status in (("g `a = a`;; e REFL_TAC;;\nqed A;;\nsave A.hol\n", 0), ("g `a = a`\ne CONJ_TAC\n", 1), ("", 0)):
-            done = subprocess.run(words, input=text.encode(), cwd=self.folder, capture_output=True, timeout=SECONDS, env=self.environment)
+            done = forked.run("repl", "--server", program, input=text.encode(), cwd=self.folder, env=self.environment)
             self.assertEqual((done.returncode, done.stderr), (status, b""))
             self.assertNotIn(b"\x1b", done.stdout)
         self.assertEqual((self.folder / "A.hol").read_text(), "g A `a = a`;;\ne REFL_TAC;;\nqed;;\n")
-        done = subprocess.run([*PYTHON, str(HOLLS), "repl", "none.hol"], cwd=self.folder, capture_output=True, timeout=SECONDS)
+        done = forked.run("repl", "none.hol", cwd=self.folder)
         self.assertEqual(done.returncode, 2)
 
     def test_a_terminal_with_a_step_that_is_stopped(self):
@@ -295,10 +296,12 @@ class Tmux:
 
     def type(self, text):
         """Presses keys, Tab and Enter among them."""
+        words = []
         for part in re.findall(r"[^\t\n]+|[\t\n]", text):
             key = {"\t": ["Tab"], "\n": ["Enter"]}.get(part)
             # (a semicolon at the end of a word would end tmux's own command)
-            self.run("send-keys", *(key or ["-l", "--", part[:-1] + "\\;" if part.endswith(";") else part]))
+            words += ["send-keys", *(key or ["-l", "--", part[:-1] + "\\;" if part.endswith(";") else part]), ";"]
+        self.run(*words[:-1])
 
     def until(self, shown):
         """Waits until the screen shows a text."""
@@ -306,7 +309,7 @@ class Tmux:
         while shown not in self.run("capture-pane", "-p", "-J"):
             if time.monotonic() - begun > PATIENT:
                 raise AssertionError("%r isn't shown: %s" % (shown, self.run("capture-pane", "-p", "-J")))
-            time.sleep(0.05)
+            time.sleep(0.15)
 
 
 @unittest.skipUnless(BUILT.exists(), "hol_serve isn't built")
@@ -344,7 +347,7 @@ class OverTheProgram(unittest.TestCase):
         for typed, shown in TYPED:
             tmux.type(typed)
             tmux.until(shown)
-        done = subprocess.run([*PYTHON, str(HOLLS), "check", "--server", str(BUILT), folder.name + "/mine.hol"], capture_output=True, timeout=SECONDS)
+        done = forked.run("check", "--server", BUILT, folder.name + "/mine.hol")
         self.assertEqual(done.returncode, 0, done.stdout)
         self.assertIn(b"1 theorem, all accepted", done.stdout)
 

@@ -2,7 +2,6 @@
 
 import pathlib
 import random
-import subprocess
 import tempfile
 import time
 import unittest
@@ -10,7 +9,8 @@ import unittest
 from holls import search, terms
 from holls.names import CONSTANT, PRELUDE, THEOREM, Known
 from holls.prover import reading
-from tests.helpers import HOLLS, PYTHON, SECONDS, fake
+from tests import forked
+from tests.helpers import fake
 
 NAMED = {
     "ADD_SYM": r"!x y. add x y = add y x", "ADD_ASSOC": r"!x y z. add x (add y z) = add (add x y) z", "LEFT": r"!p q. p /\ q ==> p",
@@ -99,22 +99,21 @@ class AsAProgram(unittest.TestCase):
             (folder / "A.hol").write_text("g ONE_THM `x = x`;;\ne REFL_TAC;; qed;;\ng LOST_THM `p`;; e REFL_TAC;; qed;;\n")
             (folder / "B.hol").write_text("import A;;\ng TWO_THM `y = y`;; e REFL_TAC;; qed;;\n")
             program = fake(folder)
-            ask = [*PYTHON, str(HOLLS), "search"]
-            done = subprocess.run(ask + ["--server", program, "--in", ".", "thm"], cwd=folder, capture_output=True, timeout=SECONDS)
+            done = forked.run("search", "--server", program, "--in", ".", "thm", cwd=folder)
             self.assertEqual((done.returncode, done.stdout.decode().splitlines()), (
                 0, ["./A.hol:1: ONE_THM |- x = x", "./B.hol:2: TWO_THM |- y = y"]))
-            done = subprocess.run(ask + ["--written", "--in", "A.hol", "thm"], cwd=folder, capture_output=True, timeout=SECONDS)
+            done = forked.run("search", "--written", "--in", "A.hol", "thm", cwd=folder)
             self.assertEqual(done.stdout.decode().splitlines()[0], "A.hol:3: LOST_THM |- p")
-            done = subprocess.run(ask + ["--written", "--json", "infinity"], cwd=folder, capture_output=True, timeout=SECONDS)
+            done = forked.run("search", "--written", "--json", "infinity", cwd=folder)
             self.assertIn(b'{"file": "prelude", "line": 0, "name": "INFINITY_AX"', done.stdout)
 
     def test_the_library_is_searched_where_there_is_no_file(self):
         with tempfile.TemporaryDirectory() as name:
-            ask = [*PYTHON, str(HOLLS), "search", "_ <= _ + _"]
-            done = subprocess.run(ask, cwd=name, capture_output=True, timeout=SECONDS)
+            ask = ["search", "_ <= _ + _"]
+            done = forked.run(*ask, cwd=name)
             self.assertIn("LE_ADD |- !m n. m <= m + n", done.stdout.decode(), done.stderr)
             (pathlib.Path(name) / "A.hol").write_text("g ONE_THM `x = x`;;\ne REFL_TAC;; qed;;\n")
-            done = subprocess.run([*ask, "--written", "--in", "A.hol"], cwd=name, capture_output=True, timeout=SECONDS)
+            done = forked.run(*ask, "--written", "--in", "A.hol", cwd=name)
             self.assertEqual((done.returncode, done.stderr.decode().splitlines()), (2, [
                 "holls: the pattern can't be read: `<` begins no symbol: none of the files that are searched declares or imports it; "
                 "--in FILE searches others"]))
@@ -127,23 +126,23 @@ class AsAProgram(unittest.TestCase):
             (folder / "lib" / "A.hol").write_text("g ONE_THM `x = x`;;\ne REFL_TAC;; qed;;\n")
             (folder / "mine" / "B.hol").write_text("import A;;\n")
             (folder / "mine" / "hol-project.json").write_text('{"folders": [".", "../lib"]}')
-            done = subprocess.run([*PYTHON, str(HOLLS), "search", "--written", "one_thm"], cwd=folder, capture_output=True, timeout=SECONDS)
+            done = forked.run("search", "--written", "one_thm", cwd=folder)
             self.assertEqual(done.stdout.decode().count(": ONE_THM |-"), 1, done.stdout)
 
     def test_the_library_is_searched_behind_the_folder(self):
         with tempfile.TemporaryDirectory() as name:
             folder = pathlib.Path(name)
             (folder / "A.hol").write_text("import logic;;\ng ADD_SYM_OF_MINE `x = x`;;\ne REFL_TAC;; qed;;\n")
-            ask = [*PYTHON, str(HOLLS), "search", "--written"]
-            done = subprocess.run(ask + ["add_sym"], cwd=folder, capture_output=True, timeout=SECONDS)
+            ask = ["search", "--written"]
+            done = forked.run(*ask, "add_sym", cwd=folder)
             lines = done.stdout.decode().splitlines()
             self.assertEqual((done.returncode, lines[0]), (0, "./A.hol:2: ADD_SYM_OF_MINE |- x = x"))
             self.assertRegex(lines[1], r"/theories/arithmetic\.hol:[0-9]+: ADD_SYM \|- !m n\. m \+ n = n \+ m$")
-            done = subprocess.run(ask + ["m + n = _"], cwd=folder, capture_output=True, timeout=SECONDS)
+            done = forked.run(*ask, "m + n = _", cwd=folder)
             self.assertIn("ADD_SYM |-", done.stdout.decode())
-            done = subprocess.run(ask + ["e"], cwd=folder, capture_output=True, timeout=SECONDS)
+            done = forked.run(*ask, "e", cwd=folder)
             self.assertRegex(done.stdout.decode().splitlines()[-1], r"^\.\. and [0-9]+ more in the library: --in /")
-            done = subprocess.run(ask + ["--in", "A.hol", "add_sym"], cwd=folder, capture_output=True, timeout=SECONDS)
+            done = forked.run(*ask, "--in", "A.hol", "add_sym", cwd=folder)
             self.assertNotIn("arithmetic.hol", done.stdout.decode())
 
 

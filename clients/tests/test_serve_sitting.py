@@ -2,12 +2,10 @@
 
 import os
 import re
-import subprocess
-import sys
 import unittest
 
-from tests import browser
-from tests.helpers import BUILT, HOLLS, SECONDS
+from tests import browser, forked
+from tests.helpers import BUILT, SECONDS
 from tests.test_serve import COURSE, Served, free_port, python
 
 STUDENTS = ("ada", "ben", "cleo")
@@ -17,12 +15,12 @@ BACK = "!window.page || window.page.isDone && !document.querySelector('#goals.un
 
 @unittest.skipUnless(python() and browser.CHROMIUM and BUILT.exists(), "aiohttp, Chromium or hol_serve isn't here: no course is sat through")
 class Sitting(Served):
+    shares = "a browser"
+
     def setUp(self):
         super().setUp()
         self.port, self.kept = free_port(), self.room / "work"
         self.begin()
-        self.browser = browser.Browser()
-        self.addCleanup(self.browser.stop)
 
     def begin(self):
         self.serve("--port", str(self.port), "--keep", str(self.kept), "--teacher-key", "secret", "--ahead", "1", program=str(BUILT))
@@ -36,7 +34,7 @@ class Sitting(Served):
                 self.start_anew(pages["ada"])
                 for page in pages.values():
                     page.until(BACK)
-        teacher = self.browser.apart("http://%s/teacher/secret" % self.host)
+        teacher = self.person().page("http://%s/teacher/secret" % self.host)
         self.until(lambda: {name: (row[4], row[6]) for name, row in self.rows(teacher).items()} == {
             "ada": ("", ""), "ben": ("implications: SWAP", "q"), "cleo": ("quantifiers: SOME", "")})
         rows = self.rows(teacher)
@@ -69,6 +67,11 @@ class Sitting(Served):
         page.until("%s.innerText.startsWith('What you write in equations is kept again')" % banner)
         self.assertEqual(page.complaints, [])
 
+    def person(self):
+        found = browser.Person()
+        self.addCleanup(found.leave)
+        return found
+
     def rows(self, teacher):
         """What the teacher's page shows, by the students' names."""
         teacher.go("http://%s/teacher/secret" % self.host)
@@ -81,7 +84,7 @@ class Sitting(Served):
 
     def student(self, name):
         """A student's browser, in which the name was given."""
-        page = self.browser.apart("http://%s/course" % self.host)
+        page = self.person().page("http://%s/course" % self.host)
         page.value("document.querySelector('input[name=name]').focus()")
         page.type(name)
         page.click("button")
@@ -119,7 +122,7 @@ class Sitting(Served):
 
     def graded(self, *words):
         """What `holls grade` says of each exercise of each student."""
-        done = subprocess.run([sys.executable, str(HOLLS), "grade", str(COURSE), "--server", str(BUILT), *words], stdout=subprocess.PIPE, timeout=SECONDS)
+        done = forked.run("grade", COURSE, "--server", BUILT, *words)
         self.assertEqual(re.findall(r"(?m)^\w+: .*proved$", done.stdout.decode()), ["ada: 10 of 10 proved", "ben: 5 of 10 proved", "cleo: 2 of 10 proved"])
         return done.returncode, done.stdout
 

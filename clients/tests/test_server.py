@@ -3,7 +3,6 @@
 import os
 import pathlib
 import queue
-import subprocess
 import tempfile
 import threading
 import time
@@ -12,7 +11,8 @@ from unittest import mock
 
 from holls import server
 from holls.api import channel
-from tests.helpers import HOLLS, PYTHON, SECONDS
+from tests import forked
+
 
 ENDS = "#!/bin/sh\necho 'hol-serve: no memory' >&2\nexit 1\n"
 
@@ -46,8 +46,7 @@ class Ending(unittest.TestCase):
         (self.folder / "A.hol").write_text("g A `x = x`;;\n")
         begun = time.monotonic()
         for _ in range(5):
-            done = subprocess.run(
-                [*PYTHON, str(HOLLS), "check", "--server", str(self.program), "A.hol"], cwd=self.folder, capture_output=True, timeout=SECONDS)
+            done = forked.run("check", "--server", self.program, "A.hol", cwd=self.folder)
             self.assertEqual((done.returncode, done.stderr.decode()), (2, (
                 "holls: hol_serve ended with status 1 (hol-serve: no memory), and again when it was started anew\n")))
         self.assertLess(time.monotonic() - begun, 100)

@@ -1,11 +1,11 @@
 """Slips of people who come from HOL Light, over the program: the places and words that `holls check` tells of them."""
 
 import pathlib
-import subprocess
 import tempfile
 import unittest
 
-from tests.helpers import BUILT, HOLLS, PYTHON, SECONDS
+from tests import forked
+from tests.helpers import BUILT
 
 SLIPS = (
     ("new_definition Q `len (x:A) = len x`;;", "1:1: error: len stands on its own right side: new_definition can't be recursive"),
@@ -36,8 +36,7 @@ class Slips(unittest.TestCase):
         with tempfile.TemporaryDirectory() as folder:
             for at, (text, _) in enumerate(SLIPS):
                 (pathlib.Path(folder) / ("S%02d.hol" % at)).write_text(text)
-            words = [*PYTHON, str(HOLLS), "check", "--server", str(BUILT), folder]
-            done = subprocess.run(words, stdout=subprocess.PIPE, timeout=SECONDS)
+            done = forked.run("check", "--server", BUILT, folder)
         lines = done.stdout.decode().splitlines()
         for at, (text, told) in enumerate(SLIPS):
             first = next(line for line in lines if "S%02d.hol:" % at in line)

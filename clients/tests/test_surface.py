@@ -9,6 +9,7 @@ import re
 import shutil
 import subprocess
 import tempfile
+import time
 import unittest
 
 from holls import check, spelling
@@ -246,6 +247,10 @@ class Bounds(unittest.TestCase):
         self.assertIn("over 8192 tokens", translated("g A `%s`" % ("x + " * 9000 + "x"), TABLE, VOCABULARY).error.text)
         self.assertIn("over 1000 digits", translated("g A `%s`" % ("1" * 5000), TABLE, VOCABULARY).error.text)
         self.assertIn("over 200000 characters", translated("g A `x%s+ 1`" % (" " * 200_000), TABLE, VOCABULARY).error.text)
+        begun = time.process_time()
+        for text in ("!" * 60_000, "!x:" * 20_000, "!(" * 30_000, "!" + "(x)" * 20_000 + ":", "\\" * 60_000 + ":A b."):
+            self.assertFalse(translated("e X `%s`" % text, TABLE, VOCABULARY).is_changed)
+        self.assertLess(time.process_time() - begun, 3.0)  # That of one text was more, where each binder was looked at with all that stands behind it.
 
     def test_texts_of_any_characters_are_read_or_refused(self):
         source = random.Random(11)
@@ -265,6 +270,8 @@ class Bounds(unittest.TestCase):
 
 
 class ThereAndBack(unittest.TestCase):
+    shares = "the library's files"
+
     def test_every_quotation_of_the_theories(self):
         changed = 0
         for file in theories():
@@ -326,10 +333,10 @@ class ThereAndBack(unittest.TestCase):
 
     # The gate prints and reads a hundred thousand by the script itself (.ci/run).
     def test_random_terms(self):
-        self.assertEqual(list(random_terms.differences(10_000, 1, 8)), [])
+        self.assertEqual(list(random_terms.differences(3_000, 1, 8)), [])
 
     def test_larger_random_terms(self):
-        self.assertEqual(list(random_terms.differences(3_000, 2, 24)), [])
+        self.assertEqual(list(random_terms.differences(1_000, 2, 24)), [])
 
     def test_all_that_the_sessions_show(self):
         number = 0
@@ -355,6 +362,8 @@ class ThereAndBack(unittest.TestCase):
 
 class HolLight(unittest.TestCase):
     """HOL Light's own statements, from its sources: those whose constants the library has."""
+
+    shares = "the library's files"
 
     def test_its_statements_are_read_and_printed_as_they_are_written(self):
         vocabulary = View.of_all(theories()).vocabulary
@@ -413,6 +422,8 @@ class HolLight(unittest.TestCase):
 
 @unittest.skipUnless(BUILT.is_file(), "hol_serve isn't built")
 class ShownByTheProgram(unittest.TestCase):
+    shares = "the library's files"
+
     def test_each_goal_and_theorem_of_the_library_reads_back(self):
         lines, _ = HolLight.library()
         asked = []

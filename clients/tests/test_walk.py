@@ -23,6 +23,8 @@ TEXTS = {
          "g S `!t. 0 <= size t`;;\ne REWRITE_TAC [LE_0];;\nqed;;\ninductive even `even 0 /\\ (!n. even n ==> even (n + 2))`;;\ng V `even 0`;;\n"
          "e REWRITE_TAC [even_RULES];;\nqed;;\ntheorems BASICS = [S; V];;\ng W `even 0`;;\ne REWRITE_TAC [BASICS];;\nqed;;\n",
     "D": "import B;;\nimport C;;\ng X `twice d = d ++ d`;;\ne ACCEPT_TAC (SPEC `d:num` N);;\nqed;;\ng Y `p ==> q`;;\ne DISCH_TAC;;\n"}
+PLAIN = {name: text.replace("import C;;\n", "") for name, text in TEXTS.items() if name != "C"}
+"""Those that need no package, whose theory has thousands of commands."""
 PIECES = ("", "", "", "e REFL_TAC;;\n", "qed;;\n", "oops;;\n", "sorry;;\n", "g Q `p ==> p`;;\n", "e foo;;\n", "import A;;\n", "import D;;\n", "`", "(*", "*)", ";;",
           "x", "infixr 16 +++ plus;;\n", "no_notation ++;;\n", "g I `p`;;\n", "qedx;;\n", "new_axiom J `p ==> p`;;\n", "deftac BY_COMM REFL_TAC;;\n", " ",
           "import nothing;;\n", "define_type t2 = P | Q;;\n", "theorems BASICS = [I];;\n")
@@ -44,8 +46,8 @@ class Output:
 class Walk:
     """A bridge in this process, whose events are taken one by one."""
 
-    def __init__(self, program, folder, source):
-        self.output, self.folder, self.source = Output(), folder, source
+    def __init__(self, program, folder, source, texts):
+        self.output, self.folder, self.source, self.texts = Output(), folder, source, texts
         self.bridge = Bridge(self.output, program, 60, Limits())
         self.versions, self.shown, self.gone, self.published = {}, {}, [], 0
         self.bridge.events.put({"id": 1, "method": "initialize", "params": {"capabilities": {}}})
@@ -87,19 +89,19 @@ class Walk:
 
     def act(self):
         """Opens a file, closes or edits one, and goes on for a while, or until all is known."""
-        name = self.source.choice(sorted(TEXTS))
+        name = self.source.choice(sorted(self.texts))
         uri = (self.folder / (name + ".hol")).as_uri()
         document, chance = self.bridge.workspace.documents.get(uri), self.source.random()
         self.did = name, chance
         if document is None:
             self.versions[uri] = 1
-            self.tell("textDocument/didOpen", textDocument={"uri": uri, "version": 1, "text": TEXTS[name]})
+            self.tell("textDocument/didOpen", textDocument={"uri": uri, "version": 1, "text": self.texts[name]})
         elif chance < 0.05:
             del self.versions[uri]
             self.tell("textDocument/didClose", textDocument={"uri": uri})
         else:
             self.versions[uri] += 1
-            change = {"text": TEXTS[name]} if chance < 0.25 else self.edit(document.file.lines)
+            change = {"text": self.texts[name]} if chance < 0.25 else self.edit(document.file.lines)
             self.tell("textDocument/didChange", textDocument={"uri": uri, "version": self.versions[uri]}, contentChanges=[change])
         self.go(self.is_done, self.source.choice((0, 0.01, 0.05, 0.2, 60)))
 
@@ -121,6 +123,7 @@ class EachReply(Walk):
 
     def __init__(self, *given):
         self.known, self.new = {}, {}  # What there was to say of each file last, and what of it has come since the bridge took the last edit.
+        self.states = {}  # By which the bridge tells whether there is something new to say of each.
         self.number, self.did = 0, ()
         super().__init__(*given)
 
@@ -137,7 +140,9 @@ class EachReply(Walk):
     def look(self):
         super().look()
         for uri, document in self.bridge.workspace.documents.items():
-            if document.version == self.versions.get(uri):
+            state = document.version == self.versions.get(uri) and self.bridge.publisher._state(document)
+            if state and state != self.states.get(uri):
+                self.states[uri] = state
                 now = {json.dumps(one, sort_keys=True) for one in features.diagnostics(document.file)}
                 self.gone += [(self.did, one) for one in self.new.get(uri, ()) if one not in now]
                 self.new[uri] = self.new.get(uri, set()) & now | now - self.known.get(uri, set())
@@ -145,9 +150,9 @@ class EachReply(Walk):
 
 
 class Walking(unittest.TestCase):
-    def walk(self, program, seed, steps, kind=Walk):
+    def walk(self, program, seed, steps, kind=Walk, texts=TEXTS):
         with tempfile.TemporaryDirectory() as folder:
-            walk = kind(program, pathlib.Path(folder), random.Random(seed))
+            walk = kind(program, pathlib.Path(folder), random.Random(seed), texts)
             try:
                 for _ in range(steps):
                     walk.act()
@@ -168,7 +173,8 @@ class Walking(unittest.TestCase):
 
     def test_nor_where_the_program_ends_now_and_then(self):
         with tempfile.TemporaryDirectory() as folder:
-            self.walk(fake(folder, "--fault", "die:150", "--once", folder + "/once"), 0, 25)
+            self.walk(fake(folder, "--fault", "die:150", "--once", folder + "/once"), 0, 50, texts=PLAIN)
+            self.assertTrue(pathlib.Path(folder, "once").exists())
 
 
 if __name__ == "__main__":
