@@ -122,13 +122,16 @@ class Worker:
         """Has a test run, or ends where there is none."""
         self.test = test
         self.shares.add(test.shares if test else None)
-        self.ours.send(test and test.name)
+        try:
+            self.ours.send(test and test.name)
+        except OSError:
+            pass  # It was lost: nothing will be told of the test.
 
     def ended(self):
         """What came of its test; nothing where the process was lost."""
         try:
             return self.ours.recv() if self.ours.poll() else None
-        except EOFError:
+        except (EOFError, OSError):
             return None
 
 
@@ -150,7 +153,7 @@ class Crew:
     """The processes that run tests, and the tests that wait."""
 
     def __init__(self, found):
-        self.waiting, self.workers = list(found), []
+        self.waiting, self.workers, self.ending = list(found), [], []
 
     def outcomes(self):
         """What came of each test, as they end. Of one that was under way when its process was lost, nothing is told."""
@@ -160,13 +163,15 @@ class Crew:
             awaited = {one: worker for worker in self.workers for one in (worker.ours, worker.process.sentinel)}
             ready = {id(awaited[one]): awaited[one] for one in multiprocessing.connection.wait(list(awaited))}
             yield from filter(None, map(self._next, ready.values()))
+        for process in self.ending:
+            process.join()
 
     def _next(self, worker):
         """What came of a process's test; it gets the next one, or another process does in the place of one that was lost."""
         outcome = worker.ended()
         self.workers.remove(worker)
         if outcome is None:
-            worker.process.join()
+            self.ending.append(worker.process)
         self._has_work(worker if outcome else Worker(self.workers))
         return outcome
 
@@ -175,7 +180,7 @@ class Crew:
         test = self._chosen(worker)
         worker.begin(test)
         if test is None:
-            worker.process.join()
+            self.ending.append(worker.process)
             return False
         self.waiting.remove(test)
         self.workers.append(worker)

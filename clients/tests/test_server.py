@@ -12,7 +12,7 @@ from unittest import mock
 from holls import server
 from holls.api import channel
 from tests import forked
-
+from tests.helpers import SECONDS
 
 ENDS = "#!/bin/sh\necho 'hol-serve: no memory' >&2\nexit 1\n"
 
