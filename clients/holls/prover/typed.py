@@ -7,7 +7,7 @@ variable counted from its binder. The search adds ("s", position, arguments, typ
 
 from __future__ import annotations
 
-from typing import Any, Dict, FrozenSet, Iterator, Optional, Tuple
+from typing import Any, Dict, FrozenSet, Iterator, List, Optional, Tuple
 
 Type = Any
 Term = Any
