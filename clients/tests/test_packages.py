@@ -589,20 +589,21 @@ class OverTheProgram(unittest.TestCase):
             self.assertNotIn("axiom", rests[name])
 
     def test_types_are_made_soon(self):
-        """Expanded and run, in seconds of the processor, with twice the time that is wanted, since what else it does costs too."""
+        """Expanded and run, in the seconds of the processor that are wanted: the better one of two, since what else the processor does costs too."""
         program = Asker([str(BUILT)], 300.0)
         self.addCleanup(program.stop)
         for file in library():
             program.add(file.name, [entry.sent for entry in file.theory.entries])
         read("define_type first = First num;;").commands  # The library is read once.
-        for text, seconds in (("exp = Numb num | Plus exp exp | Sum (exp list)", 0.1), ("many = " + _many(20), 0.5)):
-            with self.subTest(text[:20]):
+        for text, seconds in (("many = Numb num | Plus many many | Sum (many list)", 0.1), ("many = " + _many(20), 0.5)):
+            spent = []
+            for name in ("once", "twice"):
                 begun, had = time.process_time(), program.processor_seconds()
-                program.copy([one.text for one in read("define_type %s;;" % text).commands])
-                spent = time.process_time() - begun + program.processor_seconds() - had
-                self.assertIn("%s_CASES" % text.split()[0], program.theorems())
+                program.copy([one.text for one in read("define_type %s;;" % text.replace("many", name)).commands])
+                spent.append(time.process_time() - begun + program.processor_seconds() - had)
+                self.assertIn("%s_CASES" % name, program.theorems())
                 program.forget()
-                self.assertLess(spent, 2 * seconds)
+            self.assertLess(min(spent), seconds, text[:20])
 
     def test_steps_by_the_type_are_accepted_whatever_the_goal_assumes(self):
         text = "define_type t = P num | fn t | f0 | a (t list) t;;\ng EACH `!x:t. x = f0 ==> !y:t. x = y \\/ ~(y = x)`;;\ne GEN_TAC THEN DISCH_TAC;;\n" \
