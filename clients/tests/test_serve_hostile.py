@@ -167,13 +167,14 @@ class Hostile(Served):
         editor = Editor(self.socket())
         editor.open("F", "")
         editor.socket._writer.raw._sock.settimeout(60)
-        version, end, first = 0, time.monotonic() + SECONDS, self.nice()
-        while self.nice() == first and time.monotonic() < end:
+        version, end, seen = 0, time.monotonic() + SECONDS, [self.nice()]
+        while seen[-1] < min(19, seen[0] + 10) and time.monotonic() < end:
             version += 1
             editor.tell("textDocument/didChange", textDocument={"uri": "hol:/F.hol", "version": version},
                         contentChanges=[{"text": "g F%d `x = x`;;\n" % version * 10_000}])
             editor.ask("hol/manual")
-        self.assertEqual(self.nice(), min(19, first + 10))
+            seen += [self.nice()] * (self.nice() != seen[-1])
+        self.assertEqual(seen, sorted({min(19, seen[0] + more) for more in (0, 5, 10)}))
         self.works()
 
     def nice(self):

@@ -15,8 +15,8 @@ BRIDGE_MEMORY = 2 << 30
 """So many bytes of addresses a bridge may have; its memory is hardly more than 20 MB."""
 MORE_SECONDS = 60
 """So much later than the server the system ends a process that computes for too long: the server can say why."""
-BEHIND = 10
-"""So much nicer is who is put behind others."""
+BEHIND = 5
+"""So much nicer is who is put behind others, each time."""
 AHEAD = b"a"
 """How a bridge is asked for that is made ahead of its page."""
 

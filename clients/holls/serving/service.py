@@ -36,8 +36,8 @@ MESSAGE_BYTES = 4 << 20
 TOO_BIG = "a message has more than %d MB: a theory here can't be so long" % (MESSAGE_BYTES >> 20)
 BEAT_SECONDS, SEND_SECONDS, END_SECONDS, LOOK_SECONDS = 30, 60, 3, 2.0
 """So often a page is asked whether it is there; so long it may take to read a message, and a bridge to end; so often it is looked what sessions use."""
-SHARE_SECONDS = 80
-"""What a session may have of the processor in so many seconds in the long run it may have at once; then it comes after the others."""
+SHARE_SECONDS, TIMES_BEHIND = 30, 2
+"""What a session may have of the processor in so many seconds in the long run it may have at once; then it comes after the others, so often at most."""
 MESSAGES, MOST_MESSAGES = 50, 500
 """So many messages a second a session may send in the long run, and so many at once. More of them wait."""
 ANSWERS = 4
@@ -95,7 +95,7 @@ class Settings:
 class Session:
     """A page that is open: its socket, its address, its number, the name that its student gave with the key of the browser, the number of its bridge, and
     what says that it is to end. Of the files `lost` the last text couldn't be kept; `used` seconds of the processor it had when it was looked at last, `share`
-    is what it may have before it `is_behind` the others."""
+    is what it may have before it comes further behind the others, which it did `behind` times."""
 
     socket: "web.WebSocketResponse"
     transport: Optional[asyncio.BaseTransport]
@@ -107,7 +107,7 @@ class Session:
     process: int = 0
     lost: Set[str] = field(default_factory=set)
     used: float = 0.0
-    is_behind: bool = False
+    behind: int = 0
     begun: float = field(default_factory=time.monotonic)
     spent: "asyncio.Future[End]" = field(default_factory=lambda: asyncio.get_running_loop().create_future())
 
@@ -236,7 +236,7 @@ class Service:
         self._number += 1
         cookies = request.cookies
         session = Session(page, request.transport, self._address(request), self._number,
-                          Bucket(self.settings.share, self.settings.share * SHARE_SECONDS), from_cookie(cookies.get(COOKIE)), key_of(cookies.get(KEY_COOKIE)))
+                          self._whole_share(), from_cookie(cookies.get(COOKIE)), key_of(cookies.get(KEY_COOKIE)))
         refused = self._refused(session.address)
         if refused:
             self._log(session, "is refused: %s" % refused)
@@ -360,12 +360,15 @@ class Service:
                     _spend(session, (SPENT, words))
 
     def _share(self, session: Session, seconds: float) -> None:
-        """Puts a session behind the others that has had too much of the processor."""
+        """Puts a session behind the others that has had too much of the processor; and further behind, where it has had as much again."""
         owes = session.share.owes(max(0.0, seconds - session.used))
         session.used = seconds
-        if owes and not session.is_behind:
-            session.is_behind = True
+        if owes and session.behind < TIMES_BEHIND:
+            session.share, session.behind = self._whole_share(), session.behind + 1
             nursery.put_behind(session.process)
+
+    def _whole_share(self) -> Bucket:
+        return Bucket(self.settings.share, self.settings.share * SHARE_SECONDS)
 
     def _spent(self, used: usage.Usage) -> Optional[str]:
         """Why a session may use no more."""
