@@ -1,11 +1,9 @@
 """Tests of what is written straight from a quotation's tokens: it is what the reader and the plain writer make of it."""
 
 import functools
-import pathlib
 import random
 import unittest
 
-from holls import check
 from holls.surface import direct
 from holls.surface.errors import Misread
 from holls.surface.plain import PlainWriter
@@ -14,8 +12,8 @@ from holls.surface.shown import Printer, Unprintable
 from holls.surface.table import PERHAPS
 from holls.surface.vocabulary import Asked
 from tests import random_terms
+from tests.test_surface import theories
 
-ROOT = pathlib.Path(__file__).resolve().parents[2]
 MORE = ("(", ")", ",", "[", "}", "|", ":", "if", "o", "\\", "=", ".", ";", "7", "~")
 """Tokens that are put where they may not belong."""
 
@@ -72,6 +70,8 @@ def bound(source, depth):
 
 
 class Straight(unittest.TestCase):
+    shares = "the library's files"
+
     def compare(self, text, table, vocabulary):
         """Whether a quotation is written straight; where it is, as the reader does, by the same questions."""
         asked, wanted = Asked(vocabulary), Asked(vocabulary)
@@ -83,7 +83,7 @@ class Straight(unittest.TestCase):
 
     def test_every_quotation_of_the_theories(self):
         straight = every = 0
-        for file in [file for files in check.ordered([str(ROOT / "theories")]).values() for file in files]:
+        for file in theories():
             for number, command in enumerate(file.commands):
                 written = command.as_written
                 if written is command or command.package is not None or command.word == "new_definition":
