@@ -140,7 +140,7 @@ class EachReply(Walk):
     def look(self):
         super().look()
         for uri, document in self.bridge.workspace.documents.items():
-            state = document.version == self.versions.get(uri) and self.bridge.publisher._state(document)
+            state = document.version == self.versions.get(uri) and self.bridge.publisher._what_is_said(document)
             if state and state != self.states.get(uri):
                 self.states[uri] = state
                 now = {json.dumps(one, sort_keys=True) for one in features.diagnostics(document.file)}
