@@ -40,8 +40,9 @@ OF_ASSUMPTION = {"MATCH_MP_TAC (ASSUME `%s`)": "==>", "SUBST1_TAC (SYM (ASSUME `
 """Each with what the assumption has to have."""
 OF_ATOM = "DISJ_CASES_TAC (SPEC `%s` EXCLUDED_MIDDLE) THEN ASM_REWRITE_TAC []"
 OF_CONDITION = "DISJ_CASES_TAC (SPEC `%s` EXCLUDED_MIDDLE) THEN ASM_REWRITE_TAC [COND_CLAUSES; %s]"
-LATER, FEW, SECONDS = 60, 8, 2.0
-"""What the steps that are tried later cost more; in how few theorems a constant stands whose definition is unfolded; how long a proof is looked for first."""
+LATER, FEW, SECONDS, SOON = 60, 8, 2.0, 0.4
+"""What the steps that are tried later cost more; in how few theorems a constant stands whose definition is unfolded; how long a proof is looked for, of the
+statement and of each state behind it."""
 RARE, MANY, ANALOGIES, SHORT = 3, 60, 2, 4
 """By so many of its rarest words theorems are looked for, so many by each, and so many are tried in place of another; a short proof has so many commands."""
 WITNESSES = ("T", "F", "_0", "_1")
@@ -179,16 +180,14 @@ def size(state):
 def search(first, most=MOST):
     """A state without goals that steps lead to from this one; None where none was found before so many steps were tried.
 
-    What the editors' "Find a proof" does is tried first, where HOL Light's users would have a tactic that searches.
+    Of each state what the editors' "Find a proof" does is tried first, where HOL Light's users would have a tactic that searches.
     """
-    found = first.find(SECONDS)
-    if found:
-        return found
     waiting, seen, tried = [(0, 0, 0, 0, first)], {first}, 0
     while waiting and tried < most:
         cost, paid, _, stage, state = heapq.heappop(waiting)
-        prices = steps(state)[stage]
-        for price, after in zip(prices.values(), state.apply_all(prices)):
+        found = [] if stage else [state.find(SOON if state.steps else SECONDS)]
+        prices = {} if found and found[0] and found[0].is_proved else steps(state)[stage]
+        for price, after in zip([0] * len(found) + list(prices.values()), found + state.apply_all(prices)):
             tried += 1
             if isinstance(after, State) and after not in seen:
                 if after.is_proved:
