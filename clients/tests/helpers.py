@@ -5,6 +5,7 @@ import os
 import pathlib
 import stat
 import sys
+import time
 
 CLIENTS = pathlib.Path(__file__).resolve().parents[1]
 ROOT = CLIENTS.parent
@@ -16,6 +17,17 @@ PYTHON = [sys.executable, "-I", "-S"]
 
 SECONDS = 600
 """So long a program may run on a machine that does much else."""
+
+LOOP_SECONDS = 0.026
+"""What the loop of `slowness` takes on a processor of the kind for which seconds are wanted."""
+
+
+def slowness():
+    """How many times as long a loop takes here and now as on a processor of the kind for which seconds are wanted, at least 1."""
+    begun, number = time.process_time(), 0
+    for at in range(300_000):
+        number = (number * 31 + at) % 1_000_003
+    return max(1.0, (time.process_time() - begun) / LOOP_SECONDS)
 
 
 def fake(folder, *words):

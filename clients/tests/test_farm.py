@@ -3,6 +3,7 @@
 import argparse
 import io
 import json
+import math
 import os
 import pathlib
 import resource
@@ -16,7 +17,7 @@ from unittest.mock import patch
 
 from holls import check, files, sent
 from tests import forked
-from tests.helpers import BUILT, HOLLS, PYTHON, ROOT, SECONDS, fake, proofs
+from tests.helpers import BUILT, HOLLS, PYTHON, ROOT, SECONDS, fake, proofs, slowness
 
 
 class Farm(unittest.TestCase):
@@ -205,20 +206,28 @@ class Farm(unittest.TestCase):
 @unittest.skipUnless(BUILT.exists(), "hol_serve isn't built")
 class OverTheProgram(unittest.TestCase):
     def test_the_library_is_recalled_with_the_same_words_within_three_tenths_of_a_second(self):
+        """In the seconds of the processor, by the best of some: what else the machine does costs these too."""
         with tempfile.TemporaryDirectory() as folder:
             words = [*PYTHON, str(HOLLS), "check", "--server", str(BUILT), "--no-axioms", "--cache", folder, str(ROOT / "theories")]
-            outputs, seconds = [], []
-            for _ in range(4):
-                before = resource.getrusage(resource.RUSAGE_CHILDREN)
-                done = subprocess.run(words, capture_output=True, timeout=SECONDS)
-                after = resource.getrusage(resource.RUSAGE_CHILDREN)
-                self.assertEqual((done.returncode, done.stderr), (0, b""))
-                outputs.append(done.stdout)
-                seconds.append(after.ru_utime + after.ru_stime - before.ru_utime - before.ru_stime)
-            self.assertEqual(set(outputs), {outputs[0]})
-            self.assertEqual(len(list(pathlib.Path(folder).glob("*/*.json"))), outputs[0].count(b"all accepted"))
-            self.assertEqual(outputs[0].count(b"all accepted"), len(list((ROOT / "theories").glob("*.hol"))))
-            self.assertLess(min(seconds[1:]), 0.3, seconds)
+            first, _ = self.checked(words)
+            wanted, best = 0.3 * slowness(), math.inf
+            for _ in range(12):
+                output, seconds = self.checked(words)
+                self.assertEqual(output, first)
+                best = min(best, seconds)
+                if best < wanted:
+                    break
+            self.assertEqual(len(list(pathlib.Path(folder).glob("*/*.json"))), first.count(b"all accepted"))
+            self.assertEqual(first.count(b"all accepted"), len(list((ROOT / "theories").glob("*.hol"))))
+            self.assertLess(best, wanted)
+
+    def checked(self, words):
+        """What a check that finds no fault prints, and the seconds of the processor that it took."""
+        before = resource.getrusage(resource.RUSAGE_CHILDREN)
+        done = subprocess.run(words, capture_output=True, timeout=SECONDS)
+        after = resource.getrusage(resource.RUSAGE_CHILDREN)
+        self.assertEqual((done.returncode, done.stderr), (0, b""))
+        return done.stdout, after.ru_utime + after.ru_stime - before.ru_utime - before.ru_stime
 
 
 if __name__ == "__main__":

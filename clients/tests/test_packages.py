@@ -19,7 +19,7 @@ from holls.packages import forward, scope
 from holls.packages.parts import Part
 from holls.protocol import Goals, Made, Refusal
 from holls.prover.asking import Asker
-from tests.helpers import BUILT, ROOT
+from tests.helpers import BUILT, ROOT, slowness
 from tests.random_declarations import Declarations, corrected, text
 
 IMPORT = "import packages;;\n"
@@ -589,7 +589,7 @@ class OverTheProgram(unittest.TestCase):
             self.assertNotIn("axiom", rests[name])
 
     def test_types_are_made_soon(self):
-        """Expanded and run, in the seconds of the processor that are wanted: the better one of two, since what else the processor does costs too."""
+        """Expanded and run, in the seconds of the processor that are wanted: the best one of some, since what else the processor does costs too."""
         program = Asker([str(BUILT)], 300.0)
         self.addCleanup(program.stop)
         for file in library():
@@ -597,13 +597,13 @@ class OverTheProgram(unittest.TestCase):
         read("define_type first = First num;;").commands  # The library is read once.
         for text, seconds in (("many = Numb num | Plus many many | Sum (many list)", 0.1), ("many = " + _many(20), 0.5)):
             spent = []
-            for name in ("once", "twice"):
+            for name in ("once", "twice", "thrice"):
                 begun, had = time.process_time(), program.processor_seconds()
                 program.copy([one.text for one in read("define_type %s;;" % text.replace("many", name)).commands])
                 spent.append(time.process_time() - begun + program.processor_seconds() - had)
                 self.assertIn("%s_CASES" % name, program.theorems())
                 program.forget()
-            self.assertLess(min(spent), seconds, text[:20])
+            self.assertLess(min(spent), seconds * slowness(), text[:20])
 
     def test_steps_by_the_type_are_accepted_whatever_the_goal_assumes(self):
         text = "define_type t = P num | fn t | f0 | a (t list) t;;\ng EACH `!x:t. x = f0 ==> !y:t. x = y \\/ ~(y = x)`;;\ne GEN_TAC THEN DISCH_TAC;;\n" \

@@ -12,7 +12,7 @@ from holls.files import File
 from holls.lsp import proving
 from holls.lsp.workspace import Workspace
 from holls.prover import command
-from tests.helpers import BUILT, ROOT, SECONDS
+from tests.helpers import BUILT, ROOT, SECONDS, slowness
 
 SOON = 0.05
 """So many seconds of the processor may pass from the key to the first that is tried."""
@@ -74,7 +74,7 @@ class InAnEditor(unittest.TestCase):
 
     def test_a_search_begins_at_once(self):
         self.search()
-        self.assertLess(min(self.search() for _ in range(3)), SOON)
+        self.assertLess(min(self.search() for _ in range(5)), SOON * slowness())
 
     def test_a_search_behind_a_new_theorem_begins_at_once(self):
         self.search()
@@ -85,7 +85,7 @@ class InAnEditor(unittest.TestCase):
             self.document.file.commands
             found.append(self.search())
             self.assertIn("L%d" % number, self.bridge.warm(self.document)._known[1].scope.theorems)
-        self.assertLess(min(found), SOON)
+        self.assertLess(min(found), SOON * slowness())
 
     def test_what_does_not_change_is_not_read_again(self):
         self.search()
