@@ -222,10 +222,11 @@ class Page {
     if (this.active.isDone) this.settled();
   }
 
-  // All is known.
+  // All is known, of what the bridge has, which may be exercises alone before a theory is shown.
   known() {
     const { active } = this;
     $('progress').textContent = '';
+    if (!active) return;
     this.hour.check(active, async () => {
       const lenses = await this.bridge.request('textDocument/codeLens', { textDocument: { uri: active.uri } });
       return (lenses ?? []).map(({ data }) => data);

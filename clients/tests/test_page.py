@@ -65,6 +65,13 @@ class InBrowser(Served):
 
 
 class Editing(InBrowser):
+    def test_all_may_be_known_before_a_theory_is_shown(self):
+        """As in a class, where the server has exercises open while the page begins."""
+        shown = self.open()
+        self.settled()
+        shown.value("(() => { const { active } = window.page; window.page.active = null; window.page.known(); window.page.active = active; setTimeout(() => { window.isLater = true; }, 200); })()")
+        shown.until("window.isLater")
+
     def test_an_error_is_shown_and_mended(self):
         shown = self.open()
         self.write("g A `p /\\ q = q`;;\ne REFL_TAC;;\n")
