@@ -11,6 +11,7 @@ import shutil
 import subprocess
 import sys
 import tempfile
+import time
 from typing import Iterator, List, NamedTuple, Set
 
 ROOT = pathlib.Path(__file__).resolve().parent.parent
@@ -54,11 +55,13 @@ def write_tree(tree: pathlib.Path) -> None:
         (tree / name).parent.mkdir(parents=True, exist_ok=True)
         shutil.copy(str(ROOT / name), str(tree / name))
     (tree / "HANDLES").write_text("Handles allowed: none.\n")
+    # (`rt ci` takes what it has proved before on this machine, so no other tree, of this run or another, has these files)
+    mark = "small tree %s %d." % (tree.name, time.time_ns())
     (tree / "crates.txt").write_text("".join(f"{name}: {uses}\n" for name, (uses, _, _) in CRATES.items()))
     for name, (_, source, output) in CRATES.items():
         folder = tree / "crates" / name
         (folder / "src").mkdir(parents=True)
-        (folder / "src" / ("lib.rt" if output is None else "main.rt")).write_text(source, encoding="utf-8")
+        (folder / "src" / ("lib.rt" if output is None else "main.rt")).write_text(source.replace("small tree.", mark), encoding="utf-8")
         if output is not None:
             (folder / "stdout").write_text(output)
 
