@@ -177,6 +177,14 @@ def size(state):
     return sum(15 + len(goal.conclusion) + sum(map(len, goal.assumptions)) / 4 for goal in state.goals)
 
 
+def at_once(state):
+    """What a short search of the editors' makes of a state, if something."""
+    try:
+        return state.find(SOON if state.steps else SECONDS)
+    except ProverError:
+        return None  # It has gone silent: the steps may still lead on.
+
+
 def search(first, most=MOST):
     """A state without goals that steps lead to from this one; None where none was found before so many steps were tried.
 
@@ -185,7 +193,7 @@ def search(first, most=MOST):
     waiting, seen, tried = [(0, 0, 0, 0, first)], {first}, 0
     while waiting and tried < most:
         cost, paid, _, stage, state = heapq.heappop(waiting)
-        found = [] if stage else [state.find(SOON if state.steps else SECONDS)]
+        found = [] if stage else [at_once(state)]
         prices = {} if found and found[0] and found[0].is_proved else steps(state)[stage]
         for price, after in zip([0] * len(found) + list(prices.values()), found + state.apply_all(prices)):
             tried += 1
